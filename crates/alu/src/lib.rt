@@ -1,0 +1,7 @@
+// The arithmetic of the 8080: bytes, flags and 16-bit numbers. Nothing here knows a register.
+pub mod accumulator;
+pub mod flags;
+pub mod groups;
+pub mod logic;
+pub mod sums;
+pub mod words;

@@ -1,0 +1,33 @@
+// AND, exclusive OR and OR, bit by bit.
+ghost use mathlib.Core.Path.{_≡_};
+ghost use Rattle.alu.specs.Logic.{andCarryOf, anaOf, xraOf, oraOf};
+use crate::flags::Flagged;
+use crate::flags::result;
+
+// AC after AND.
+fn and_carry(a: u8, b: u8) -> bool
+    ensures { λ r. ⌜ r ≡ andCarryOf a b ⌝ }
+{
+    false
+}
+
+// ANA.
+pub fn ana(a: u8, b: u8) -> Flagged
+    ensures { λ r. ⌜ r ≡ anaOf a b ⌝ }
+{
+    result(a & b, and_carry(a, b), false)
+}
+
+// XRA.
+pub fn xra(a: u8, b: u8) -> Flagged
+    ensures { λ r. ⌜ r ≡ xraOf a b ⌝ }
+{
+    result(a ^ b, false, false)
+}
+
+// ORA.
+pub fn ora(a: u8, b: u8) -> Flagged
+    ensures { λ r. ⌜ r ≡ oraOf a b ⌝ }
+{
+    result(a | b, false, false)
+}

@@ -1,0 +1,5 @@
+-- The modules of this folder.
+pub mod Every
+pub mod Listed
+pub mod Last
+pub mod Order

@@ -1,0 +1,5 @@
+-- The modules of this folder.
+pub mod Codes
+pub mod Entries
+pub mod Totals
+pub mod Twelve
