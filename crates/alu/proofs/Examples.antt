@@ -47,7 +47,8 @@ hold [] = true
 hold (x ∷ xs) = eqb (x .gave .value) (x .value) && eqb (flagByteOf (x .gave .flags)) (x .flags) && hold xs
 
 examples-hold : T (hold examples)
-unfolding examples hold _gives_with_ flagByteOf resultOf withCy parityOf sumOf halfCarryOf addOf subOf cmpOf keepCy inrOf dcrOf daaOf andCarryOf anaOf
+unfolding examples hold _gives_with_ flagByteOf resultOf withCy parityOf
+    sumOf halfCarryOf addOf subOf cmpOf keepCy inrOf dcrOf daaOf andCarryOf anaOf
 examples-hold = tt
 
 -- DAD H with H,L 8000, and INX at FFFF

@@ -1,5 +1,5 @@
--- Rotates, complement and carry. Source: Intel's 8080 manual; flags by READINGS of document 01: the rotates, STC and CMC
--- change CY only, CMA none. Cited by `alu::accumulator`.
+-- Rotates, complement and carry. Source: Intel's 8080 manual: the rotates, STC and CMC change CY only, CMA no flag.
+-- Cited by `alu::accumulator`.
 use Prim.Native.Nat.{ℕ, _+_, _-_, _*_, _/_, _%_}
 use mathlib.Core.Bool.{Bool, true, false, not}
 use lib.Dec.{leb, eqb}

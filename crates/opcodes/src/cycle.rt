@@ -1,6 +1,7 @@
 // What a cycle's code says: its kind and status, its states, and what READY and PC do in it.
 ghost use mathlib.Core.Path.{_≡_};
-ghost use Rattle.opcodes.specs.Kinds.{fetchKind, writesOf, kindOf, statusOf, statesOf, waitsOf, readsOf, isNone, raisesOf};
+ghost use Rattle.opcodes.specs.Kinds.{fetchKind, writesOf, kindOf, statusOf, statesOf};
+ghost use Rattle.opcodes.specs.Kinds.{waitsOf, readsOf, isNone, raisesOf};
 
 // How an instruction was come to: fetched, or as the answer to an interrupt that was taken from running or from halt.
 pub enum Acknowledge {

@@ -11,4 +11,11 @@ flag-byte-spec =
     tie.close
     (tie.spec (search needs) (search needs) (search needs) (search needs) (search needs) (search needs) (search needs)
     (search needs) (search needs) (search needs) (search needs) (search needs) (search needs) (search needs)
-    (λ c. simp (← (c .bit5 .ensures .0), ← (c .before .bit4 .ensures .0), ← (c .before .before .bit3 .ensures .0), ← (c .before .before .before .bit2 .ensures .0), ← (c .before .before .before .before .bit .ensures .0))))
+    (λ c.
+    simp (
+      ← (c .bit5 .ensures .0),
+      ← (c .before .bit4 .ensures .0),
+      ← (c .before .before .bit3 .ensures .0),
+      ← (c .before .before .before .bit2 .ensures .0),
+      ← (c .before .before .before .before .bit .ensures .0),
+    )))

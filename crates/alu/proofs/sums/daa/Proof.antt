@@ -11,4 +11,12 @@ daa-spec =
     tie.close
     (tie.spec (search needs) (search needs) (search needs) (search needs) (search needs) (search needs) (search needs)
     (search needs)
-    (λ c. simp (← (c .result .ensures), ← (c .before .half-carry .ensures), ← (c .before .before .wrapping-add-u82 .ensures), ← (c .before .before .before .bit2 .ensures .0), ← (c .before .before .before .before .wrapping-add-u8 .ensures), ← (c .before .before .before .before .before .bit .ensures .0))))
+    (λ c.
+    simp (
+      ← (c .result .ensures),
+      ← (c .before .half-carry .ensures),
+      ← (c .before .before .wrapping-add-u82 .ensures),
+      ← (c .before .before .before .bit2 .ensures .0),
+      ← (c .before .before .before .before .wrapping-add-u8 .ensures),
+      ← (c .before .before .before .before .before .bit .ensures .0),
+    )))

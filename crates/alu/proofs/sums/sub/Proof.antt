@@ -11,4 +11,10 @@ sub-spec =
     tie.close
     (tie.spec (search needs) (search needs) (search needs) (search needs) (search needs) (search needs) (search needs)
     (search needs) (search needs)
-    (λ c. simp (← (c .result .ensures), ← (c .before .half-carry .ensures), ← (c .before .before .bit .ensures .0), ← (c .before .before .before .sum .ensures))))
+    (λ c.
+    simp (
+      ← (c .result .ensures),
+      ← (c .before .half-carry .ensures),
+      ← (c .before .before .bit .ensures .0),
+      ← (c .before .before .before .sum .ensures),
+    )))
