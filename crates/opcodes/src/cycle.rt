@@ -103,7 +103,7 @@ pub fn reads(code: u8) -> bool
 }
 
 // Whether this is no acknowledge.
-fn is_none(ack: Acknowledge) -> bool
+pub fn is_none(ack: Acknowledge) -> bool
     ensures { λ r. ⌜ r ≡ isNone ack ⌝ }
 {
     match ack {

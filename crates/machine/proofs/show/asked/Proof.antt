@@ -1,0 +1,31 @@
+-- `machine::show::asked` meets its contract.
+-- Assumes nothing.
+use mathlib.Core.Path.{sym}
+use lib.ListN.{List·getD-eq-default}
+use Rattle.machine.specs.declared.show.Request.the-variants.{Nothing}
+use Rattle.machine.specs.Show.{asks, askedOf}
+use Rattle.laws.proofs.Last.{past}
+use borrow.Author.Needs.{needs}
+use Rattle.machine.proofs.show.asked.Statement.{statement}
+use Rattle.machine.proofs.show.asked.Tie as tie
+
+pub asked-spec : {M : Type 1} → statement M
+unfolding askedOf
+asked-spec =
+    tie.close
+    (tie.spec (search needs) (search needs)
+    (λ c. simp (c .match .keys1))
+    (λ c. simp (c .match .keys2))
+    (λ c. simp (c .match .keys3))
+    (λ c. simp (c .match .keys4))
+    (λ c. simp (c .match .keys5))
+    (λ c. simp (c .match .keys6))
+    (λ c. simp (c .match .keys7))
+    (λ c. simp (c .match .keys8))
+    (λ c. simp (← (c .restart .ensures), c .before .match .keys9))
+    (λ c. simp (c .match .keys10))
+    (λ c. simp (← (c .restart2 .ensures), c .before .match .keys11))
+    (λ c.
+    sym
+    (List·getD-eq-default (asks (c .before .args .a) (c .before .args .b) (c .before .args .k)) Nothing
+    (past 11 (c .match .rest)))))

@@ -1,0 +1,7 @@
+-- The modules of this folder, in reading order.
+pub mod Record
+pub mod Cycle
+pub mod Ending
+pub mod Step
+pub mod Show
+pub mod Well

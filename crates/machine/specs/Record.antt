@@ -1,0 +1,45 @@
+-- The cold machine, the clock, and the record with a part of it changed. Source: document 01, "The machine".
+-- Cited by `machine::record` and everything above.
+use Prim.Native.Nat.{ℕ, _+_, _%_}
+use mathlib.Core.Bool.{false}
+use Rattle.opcodes.specs.declared.cycle.Acknowledge.the-variants.{None}
+use Rattle.effect.specs.declared.registers.Registers.{Registers}
+use Rattle.effect.specs.declared.kept.Kept.{Kept}
+use Rattle.effect.specs.Kept.{keptFor}
+use Rattle.machine.specs.declared.record.Lines.{Lines}
+use Rattle.machine.specs.declared.record.Position.{Position}
+use Rattle.machine.specs.declared.record.Position.the-variants.{Fetch, Later, Wait, Hold, Halt, Stop}
+use Rattle.machine.specs.declared.record.Machine.{Machine}
+
+-- "A cold machine: all registers 0, flag byte hex 02, SP, PC and clock 0, INTE off, READY up, HOLD and INT down, next a fetch"
+unfoldable pub coldOf : Machine
+coldOf =
+    record {
+      regs = record { a = 0; f = 2; b = 0; c = 0; d = 0; e = 0; h = 0; l = 0; sp = 0; pc = 0; inte = false };
+      kept = keptFor None 0;
+      lines = record { ready = 1; hold = 0; int = 8 };
+      clock = 0;
+      next = Fetch;
+    }
+
+-- the machine m with another position, other registers, other kept bytes
+unfoldable pub withNext : Position → Machine → Machine
+withNext n m = record { regs = m .regs; kept = m .kept; lines = m .lines; clock = m .clock; next = n }
+
+unfoldable pub withRegs : Registers → Machine → Machine
+withRegs r m = record { regs = r; kept = m .kept; lines = m .lines; clock = m .clock; next = m .next }
+
+unfoldable pub withKept : Kept → Machine → Machine
+withKept k m = record { regs = m .regs; kept = k; lines = m .lines; clock = m .clock; next = m .next }
+
+-- the clock after one more state: it counts modulo 4,294,967,296, and a stopped machine does no state
+unfoldable pub tickedOf : Position → ℕ → ℕ
+tickedOf Fetch t = (t + 1) % 4294967296
+tickedOf (Later c s) t = (t + 1) % 4294967296
+tickedOf (Wait c) t = (t + 1) % 4294967296
+tickedOf (Hold c) t = (t + 1) % 4294967296
+tickedOf Halt t = (t + 1) % 4294967296
+tickedOf Stop t = t
+
+unfoldable pub withClock : ℕ → Machine → Machine
+withClock t m = record { regs = m .regs; kept = m .kept; lines = m .lines; clock = t; next = m .next }

@@ -1,0 +1,8 @@
+// The machine: a struct by value with a position inside, its one-state step, what a state asks and shows, and which records
+// are well formed.
+pub mod cycle;
+mod ending;
+pub mod record;
+pub mod show;
+pub mod step;
+pub mod well;

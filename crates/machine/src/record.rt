@@ -1,0 +1,123 @@
+// The machine's record, the cold machine, and the record with a part of it changed.
+ghost use mathlib.Core.Path.{_≡_};
+ghost use Rattle.machine.specs.Record.{coldOf, withNext, withRegs, withKept, withClock, tickedOf};
+use effect::kept::Kept;
+use effect::registers::Registers;
+use opcodes::cycle::Acknowledge;
+
+// What comes next; cycles and states count from 1. T1 of the first cycle is Fetch, an acknowledge's too.
+pub enum Position {
+    Fetch,
+    Later { cycle: u8, state: u8 },
+    Wait { cycle: u8 },
+    Hold { cycle: u8 },
+    Halt,
+    Stop,
+}
+
+// The levels: READY and HOLD 0 down or 1 up, INT 0 to 7 up with that restart number or 8 down.
+pub struct Lines {
+    pub ready: u8,
+    pub hold: u8,
+    pub int: u8,
+}
+
+// clock is the number of states done.
+pub struct Machine {
+    pub regs: Registers,
+    pub kept: Kept,
+    pub lines: Lines,
+    pub clock: u32,
+    pub next: Position,
+}
+
+// The clock after one more state: it counts every state, and a stopped machine does none.
+pub fn ticked(next: Position, clock: u32) -> u32
+    ensures { λ v. ⌜ v ≡ tickedOf next clock ⌝ }
+{
+    let one = std::num::wrapping_add_u32(clock, 1);
+    match next {
+        Position::Fetch => one,
+        Position::Later { cycle: _, state: _ } => one,
+        Position::Wait { cycle: _ } => one,
+        Position::Hold { cycle: _ } => one,
+        Position::Halt => one,
+        Position::Stop => clock,
+    }
+}
+
+impl Machine {
+    pub fn cold() -> Machine
+        ensures { λ n. ⌜ n ≡ coldOf ⌝ }
+    {
+        Machine {
+            regs: Registers {
+                a: 0,
+                f: 2,
+                b: 0,
+                c: 0,
+                d: 0,
+                e: 0,
+                h: 0,
+                l: 0,
+                sp: 0,
+                pc: 0,
+                inte: false,
+            },
+            kept: effect::kept::kept_for(Acknowledge::None, 0),
+            lines: Lines {
+                ready: 1,
+                hold: 0,
+                int: 8,
+            },
+            clock: 0,
+            next: Position::Fetch,
+        }
+    }
+
+    pub fn with_next(self, next: Position) -> Machine
+        ensures { λ n. ⌜ n ≡ withNext next self ⌝ }
+    {
+        let regs = self.regs;
+        let kept = self.kept;
+        let lines = self.lines;
+        Machine {
+            regs: regs,
+            kept: kept,
+            lines: lines,
+            clock: self.clock,
+            next: next,
+        }
+    }
+
+    pub fn with_regs(self, regs: Registers) -> Machine
+        ensures { λ n. ⌜ n ≡ withRegs regs self ⌝ }
+    {
+        let mut n = self;
+        n.regs = regs;
+        n
+    }
+
+    pub fn with_kept(self, kept: Kept) -> Machine
+        ensures { λ n. ⌜ n ≡ withKept kept self ⌝ }
+    {
+        let lines = self.lines;
+        let regs = self.regs;
+        let next = self.next;
+        Machine {
+            regs: regs,
+            kept: kept,
+            lines: lines,
+            clock: self.clock,
+            next: next,
+        }
+    }
+
+    pub fn with_clock(self, clock: u32) -> Machine
+        ensures { λ n. ⌜ n ≡ withClock clock self ⌝ }
+    {
+        let mut n = self;
+        n.clock = clock;
+        n
+    }
+}
