@@ -107,7 +107,8 @@ impl Machine {
     {
         let kept = self.kept;
         let regs = self.regs;
-        if n == 0 {
+        let last = n == 0;
+        if last {
             self.with_regs(effect(kept, regs)).hold(c, n)
         } else {
             self.hold(c, n)
