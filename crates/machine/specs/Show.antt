@@ -108,3 +108,8 @@ rowOf y v m =
       cycle = y .cycle;
       levels = levelsOf (m .lines) (m .regs .inte);
     }
+
+-- one name that opens what a state shows
+unfoldable pub showing : ℕ
+unfolding placeOf standsOf firstPcOf shownOf lookAt lookOf restartOf askedOf requestOf levelsOf rowOf
+showing = 0

@@ -16,8 +16,8 @@ use Rattle.machine.specs.declared.record.Position.the-variants.{Fetch, L
 use Rattle.machine.specs.declared.record.Machine.{Machine}
 use Rattle.machine.specs.declared.cycle.Cycle.{Cycle}
 use Rattle.machine.specs.Record.{withNext, withRegs, withKept, withClock, tickedOf}
-use Rattle.machine.specs.Cycle.{cycleOf}
-use Rattle.machine.specs.Ending.{clearOf, holdOf, endOf}
+use Rattle.machine.specs.Cycle.{afterOf, cyclesOf, cycleOf}
+use Rattle.machine.specs.Ending.{takesOf, acknowledgeOf, clearOf, endedOf, followOf, holdOf, endOf}
 
 -- "PC rises in T2 of a fetch and of an operand read, never in an acknowledge"
 unfoldable pub risenOf : ℕ → Kept → Registers → Registers
@@ -73,3 +73,9 @@ movedOf Stop v m = m
 -- one state
 unfoldable pub stepOf : ℕ → Machine → Machine
 stepOf v m = withClock (tickedOf (m .next) (m .clock)) (movedOf (m .next) v m)
+
+-- one name that opens the rules of a state
+unfoldable pub stepping : ℕ
+unfolding withNext withRegs withKept withClock tickedOf cycleOf cyclesOf afterOf takesOf acknowledgeOf clearOf endedOf followOf
+    holdOf endOf risenOf waitOf secondOf fetchedOf onwardOf tookOf thirdOf laterOf haltedOf movedOf stepOf
+stepping = 0

@@ -1,0 +1,69 @@
+-- Document 01's printed sample, computed from the rules: the fourteen states of 3E 05 76 from a cold start.
+-- Assumes nothing.
+use Prim.Native.Nat.{ℕ, zero, suc, _+_, _*_}
+use mathlib.Core.Path.{_≡_, refl}
+use mathlib.Core.List.{List, [], _∷_}
+use lib.ListN.{getD, set}
+use Rattle.alu.specs.Words.{upOf}
+use Rattle.opcodes.specs.Condition.{metOf}
+use Rattle.opcodes.specs.Cycles.{cycling}
+use Rattle.opcodes.specs.Kinds.{writesOf, kindOf, statusOf, statesOf, waitsOf, readsOf, raisesOf}
+use Rattle.effect.specs.Registers.{regOf, withReg}
+use Rattle.effect.specs.Pairs.{pairOf, pairHighOf, pairLowOf}
+use Rattle.effect.specs.Kept.{keptFor, keepOf, wzOf}
+use Rattle.effect.specs.Bus.{addressOf, givenOf}
+use Rattle.effect.specs.Effect.{finish, effectOf}
+use Rattle.machine.specs.declared.record.Machine.{Machine}
+use Rattle.machine.specs.declared.show.Look.{Look}
+use Rattle.machine.specs.declared.show.Request.{Request}
+use Rattle.machine.specs.declared.show.Request.the-variants.{Nothing, Read, Write, Input, Output, Restart}
+use Rattle.machine.specs.Record.{coldOf}
+use Rattle.machine.specs.Step.{stepOf, stepping}
+use Rattle.machine.specs.Show.{lookOf, requestOf, showing}
+
+-- the byte on the bus, over a memory that is 0 past the list's end and input ports that are 0
+byteOn : Request → List ℕ → ℕ
+byteOn Nothing memory = 0
+byteOn (Read a) memory = getD memory a 0
+byteOn (Write a b) memory = b
+byteOn (Input p) memory = 0
+byteOn (Output p b) memory = b
+byteOn (Restart b) memory = b
+
+-- state code, kind, address and byte of a state
+record Line : Type 0 where
+  state : ℕ
+  kind : ℕ
+  address : ℕ
+  byte : ℕ
+
+line : ℕ → ℕ → ℕ → ℕ → Line
+line s k a b = record { state = s; kind = k; address = a; byte = b }
+
+-- the lines of n states of a program that writes nothing
+lines : ℕ → List ℕ → Machine → List Line
+lines zero memory m = []
+lines (suc n) memory m =
+    line (lookOf m .state) (lookOf m .kind) (lookOf m .address) (byteOn (requestOf (lookOf m) m) memory)
+    ∷ lines n memory (stepOf (byteOn (requestOf (lookOf m) m) memory) m)
+
+sample :
+    lines 14 (0x3E ∷ 0x05 ∷ 0x76 ∷ []) coldOf
+    ≡ line 1 1 0x0000 0x00
+    ∷ line 2 1 0x0000 0x00
+    ∷ line 3 1 0x0000 0x3E
+    ∷ line 4 1 0x0000 0x00
+    ∷ line 1 2 0x0001 0x00
+    ∷ line 2 2 0x0001 0x00
+    ∷ line 3 2 0x0001 0x05
+    ∷ line 1 1 0x0002 0x00
+    ∷ line 2 1 0x0002 0x00
+    ∷ line 3 1 0x0002 0x76
+    ∷ line 4 1 0x0000 0x00
+    ∷ line 1 9 0x0003 0x00
+    ∷ line 2 9 0x0003 0x00
+    ∷ line 3 9 0x0003 0x00
+    ∷ []
+unfolding byteOn line lines coldOf cycling metOf writesOf kindOf statusOf statesOf waitsOf readsOf raisesOf regOf withReg
+    pairOf pairHighOf pairLowOf keptFor keepOf wzOf addressOf givenOf finish effectOf stepping showing
+sample = refl
