@@ -1,0 +1,2 @@
+-- The modules of this folder, in reading order.
+pub mod State
