@@ -3,3 +3,4 @@ pub mod Every
 pub mod Listed
 pub mod Last
 pub mod Order
+pub mod Tests

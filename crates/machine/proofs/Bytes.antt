@@ -1,0 +1,125 @@
+-- What is kept stays right when a cycle after the first has read, or has nothing to read.
+-- Assumes nothing.
+use Prim.Native.Nat.{ℕ, _-_, _≤_, _<_}
+use mathlib.Core.Path.{_≡_, refl, sym, subst}
+use mathlib.Core.Bool.{Bool, true, false, not, _&&_, _||_}
+use mathlib.Core.Logic.{⊎-elim}
+use native.Mathlib.Omega.{arith}
+use borrow.Author.Tests.{eqb-true, ne-eqb}
+use lib.Dec.{T, eqb, leb, leb→le, le→leb}
+use Rattle.laws.specs.Choice.{pick}
+use Rattle.laws.proofs.Every.{and-left, and-right}
+use Rattle.laws.proofs.Tests.{and-both, or-left, or-right, or-either, true→T, pick-both}
+use Rattle.opcodes.specs.Cycles.{codeOf, definedOf}
+use Rattle.opcodes.specs.Kinds.{readsOf, isNone}
+use Rattle.effect.specs.declared.kept.Kept.{Kept}
+use Rattle.effect.specs.Kept.{keepOf}
+use Rattle.machine.specs.declared.record.Lines.{Lines}
+use Rattle.machine.specs.Show.{restartOf}
+use Rattle.machine.specs.Well.{readOf, bytesOf}
+use Rattle.machine.proofs.Parts.{nameOf, Ready}
+
+-- a byte that is right where d cycles have read is right where more have
+read-more : (op d e c b : ℕ) → d ≤ e → T (readOf op d c b) → T (readOf op e c b)
+unfolding readOf
+read-more op d e c b l t =
+    ⊎-elim (λ (z : T (eqb b 0)). or-left (eqb b 0) (leb c e && readsOf (codeOf op c)) z)
+    (λ (z : T (leb c d && readsOf (codeOf op c))).
+    let o = leb→le c d (and-left (leb c d) (readsOf (codeOf op c)) z) in
+    or-right (eqb b 0) (leb c e && readsOf (codeOf op c))
+    (and-both (leb c e) (readsOf (codeOf op c)) (le→leb c e (omega arith))
+    (and-right (leb c d) (readsOf (codeOf op c)) z)))
+    (or-either (eqb b 0) (leb c d && readsOf (codeOf op c)) t)
+
+-- the byte i, where cycle c has read v
+read-took : (op d c v i b : ℕ) → d ≤ c → T (readsOf (codeOf op c)) → T (readOf op d i b)
+    → T (readOf op c i (pick (eqb c i) v b))
+unfolding readOf
+read-took op d c v i b l h t =
+    pick-both (λ (x : ℕ). T (readOf op c i x)) (eqb c i) v b
+    (λ (e : eqb c i ≡ true).
+    let q = eqb-true c i e in
+    or-right (eqb v 0) (leb i c && readsOf (codeOf op i))
+    (and-both (leb i c) (readsOf (codeOf op i)) (le→leb i c (omega arith))
+    (subst (λ (j : ℕ). T (readsOf (codeOf op j))) q h)))
+    (λ (e : eqb c i ≡ false). read-more op d c i b l t)
+
+module _ (a b c d e : Bool) where
+  five-each : T (a && b && c && d && e) → T a × T b × T c × T d × T e
+  five-each t = (
+    search (and-left, and-right),
+    search (and-left, and-right),
+    search (and-left, and-right),
+    search (and-left, and-right),
+    search (and-left, and-right),
+  )
+
+  five-all : T a → T b → T c → T d → T e → T (a && b && c && d && e)
+  five-all s t u v w = search and-both depth 8
+
+-- the tests of the five bytes kept, where d cycles have read
+abbrev pub Five : Kept → ℕ → Type 0
+Five k d =
+    T (eqb (k .opcode) 0 || leb 1 d)
+    × T (readOf (k .opcode) d 2 (k .b1))
+    × T (readOf (k .opcode) d 3 (k .b2))
+    × T (readOf (k .opcode) d 4 (k .b3))
+    × T (readOf (k .opcode) d 5 (k .b4))
+
+pub bytes-each : (k : Kept) (d : ℕ) → T (bytesOf k d) → Five k d
+unfolding bytesOf
+bytes-each k d t =
+    five-each (eqb (k .opcode) 0 || leb 1 d) (readOf (k .opcode) d 2 (k .b1)) (readOf (k .opcode) d 3 (k .b2))
+    (readOf (k .opcode) d 4 (k .b3)) (readOf (k .opcode) d 5 (k .b4)) t
+
+pub bytes-all : (k : Kept) (d : ℕ) → Five k d → T (bytesOf k d)
+unfolding bytesOf
+bytes-all k d f =
+    five-all (eqb (k .opcode) 0 || leb 1 d) (readOf (k .opcode) d 2 (k .b1)) (readOf (k .opcode) d 3 (k .b2))
+    (readOf (k .opcode) d 4 (k .b3)) (readOf (k .opcode) d 5 (k .b4)) (f .0) (f .1) (f .2) (f .3) (f .4)
+
+-- the acknowledge named stays right once a cycle has read
+named-more : (k : Kept) (d e : ℕ) → 1 ≤ d → 1 ≤ e → T (nameOf k d) → T (nameOf k e)
+named-more k d e l j t =
+    rw (ne-eqb e 0 (λ q. let z : ⊥ = omega arith in z)) (rw (ne-eqb d 0 (λ q. let z : ⊥ = omega arith in z)) at t)
+
+-- cycle c, which is not the first, reads nothing
+pub ready-more : (f : ℕ) (l : Lines) (k : Kept) (c : ℕ) → 2 ≤ c → Ready f l k (c - 1) → Ready f l k c
+ready-more f l k c h r =
+    let b = bytes-each k (c - 1) (r .bytes) in
+    record {
+      fixed = r .fixed;
+      listed = r .listed;
+      defined = r .defined;
+      named = named-more k (c - 1) c (omega arith) (omega arith) (r .named);
+      bytes =
+          bytes-all k c
+          (or-right (eqb (k .opcode) 0) (leb 1 c) (le→leb 1 c (omega arith)),
+          read-more (k .opcode) (c - 1) c 2 (k .b1) (omega arith) (b .1),
+          read-more (k .opcode) (c - 1) c 3 (k .b2) (omega arith) (b .2),
+          read-more (k .opcode) (c - 1) c 4 (k .b3) (omega arith) (b .3),
+          read-more (k .opcode) (c - 1) c 5 (k .b4) (omega arith) (b .4));
+    }
+
+module _ (f : ℕ) (l : Lines) (k : Kept) (c v : ℕ) (h : 2 ≤ c) where
+  later : eqb c 1 ≡ false
+  later = ne-eqb c 1 (λ q. let z : ⊥ = omega arith in z)
+
+  -- it reads v
+  pub ready-took : T (readsOf (codeOf (k .opcode) c)) → Ready f l k (c - 1) → Ready f l (keepOf c v k) c
+  unfolding keepOf restartOf
+  ready-took o r =
+      let b = bytes-each k (c - 1) (r .bytes) in
+      record {
+        fixed = r .fixed;
+        listed = r .listed;
+        defined = rw later (r .defined);
+        named = rw later (named-more k (c - 1) c (omega arith) (omega arith) (r .named));
+        bytes =
+            bytes-all (keepOf c v k) c
+            (or-right (eqb (keepOf c v k .opcode) 0) (leb 1 c) (le→leb 1 c (omega arith)),
+            rw later (read-took (k .opcode) (c - 1) c v 2 (k .b1) (omega arith) o (b .1)),
+            rw later (read-took (k .opcode) (c - 1) c v 3 (k .b2) (omega arith) o (b .2)),
+            rw later (read-took (k .opcode) (c - 1) c v 4 (k .b3) (omega arith) o (b .3)),
+            rw later (read-took (k .opcode) (c - 1) c v 5 (k .b4) (omega arith) o (b .4)));
+      }

@@ -1,0 +1,111 @@
+-- A well-formed record taken apart and put together: what does not depend on the position, and what does.
+-- Assumes nothing.
+use Prim.Native.Nat.{ℕ, _≤_, _<_}
+use mathlib.Core.Path.{_≡_, refl, sym, subst}
+use mathlib.Core.Bool.{Bool, true, false, not, _&&_, _||_}
+use mathlib.Core.Logic.{⊎-elim}
+use native.Mathlib.Omega.{arith}
+use borrow.Author.Tests.{eqb-true, ne-eqb}
+use lib.Dec.{T, eqb, leb, leb→le, le→leb}
+use Rattle.laws.specs.Choice.{pick}
+use Rattle.laws.proofs.Every.{and-left, and-right}
+use Rattle.laws.proofs.Tests.{and-both, or-left, or-right, or-either, pick-both}
+use Rattle.opcodes.specs.Cycles.{codeOf, definedOf}
+use Rattle.opcodes.specs.Kinds.{readsOf, isNone}
+use Rattle.effect.specs.declared.kept.Kept.{Kept}
+use Rattle.effect.specs.Kept.{keepOf}
+use Rattle.machine.specs.declared.record.Lines.{Lines}
+use Rattle.machine.specs.declared.record.Position.{Position}
+use Rattle.machine.specs.declared.record.Machine.{Machine}
+use Rattle.machine.specs.Record.{withNext}
+use Rattle.machine.specs.Cycle.{cyclesOf}
+use Rattle.machine.specs.Show.{restartOf}
+use Rattle.machine.specs.Well.{fixedOf, listedOf, thereOf, doneOf, idleOf, ackedOf, readOf, bytesOf, wellOf}
+
+-- the acknowledge named and the number taken are right where d cycles have read
+abbrev pub nameOf : Kept → ℕ → Bool
+nameOf k d =
+    (isNone (k .ack) || eqb d 0 || eqb (k .opcode) (restartOf k))
+    && leb (k .rst) 7
+    && (not (isNone (k .ack)) || eqb (k .rst) 0)
+
+-- the flag byte f, the lines l and what is kept, k, are right where d cycles have read
+pub record Ready (f : ℕ) (l : Lines) (k : Kept) (d : ℕ) : Type 0 where
+  pub fixed : T (fixedOf f)
+  pub listed : T (listedOf l)
+  pub defined : T (definedOf (k .opcode))
+  pub named : T (nameOf k d)
+  pub bytes : T (bytesOf k d)
+
+-- the same of a machine, how many cycles its opcode has, and that a position exists for it
+abbrev pub ReadyAt : Machine → ℕ → Type 0
+ReadyAt m d = Ready (m .regs .f) (m .lines) (m .kept) d
+
+abbrev pub cyclesIn : Machine → ℕ
+cyclesIn m = cyclesOf (m .kept .opcode) (m .regs .f)
+
+abbrev pub There : Machine → Position → Type 0
+There m p = T (thereOf (m .kept .opcode) (cyclesIn m) p)
+
+-- an acknowledge is named with no halt state and no stop next
+abbrev pub Awake : Machine → Position → Type 0
+Awake m p = T (isNone (m .kept .ack) || not (idleOf p))
+
+-- all of it at the position p
+pub record Parts (m : Machine) (p : Position) : Type 0 where
+  pub ready : ReadyAt m (doneOf p)
+  pub there : There m p
+  pub awake : Awake m p
+
+module _ (a b c d e g : Bool) where
+  six-each : T (a && b && c && d && e && g) → T a × T b × T c × T d × T e × T g
+  six-each t = (
+    search (and-left, and-right),
+    search (and-left, and-right),
+    search (and-left, and-right),
+    search (and-left, and-right),
+    search (and-left, and-right),
+    search (and-left, and-right),
+  )
+
+  six-all : T a → T b → T c → T d → T e → T g → T (a && b && c && d && e && g)
+  six-all s t u v w x = search and-both depth 8
+
+-- a well-formed record has the parts, and a record with the parts is well formed
+module _ (m : Machine) where
+  pub parts-of : T (wellOf m) → Parts m (m .next)
+  unfolding wellOf ackedOf
+  parts-of t =
+      let s =
+          six-each (fixedOf (m .regs .f)) (listedOf (m .lines)) (definedOf (m .kept .opcode))
+          (thereOf (m .kept .opcode) (cyclesIn m) (m .next)) (ackedOf (m .kept) (m .next))
+          (bytesOf (m .kept) (doneOf (m .next))) t in
+      record {
+        ready =
+            record {
+              fixed = s .0;
+              listed = s .1;
+              defined = s .2;
+              named = and-left (nameOf (m .kept) (doneOf (m .next))) (isNone (m .kept .ack) || not (idleOf (m .next))) (s .4);
+              bytes = s .5;
+            };
+        there = s .3;
+        awake = and-right (nameOf (m .kept) (doneOf (m .next))) (isNone (m .kept .ack) || not (idleOf (m .next))) (s .4);
+      }
+
+  pub well-of : Parts m (m .next) → T (wellOf m)
+  unfolding wellOf ackedOf
+  well-of p =
+      six-all (fixedOf (m .regs .f)) (listedOf (m .lines)) (definedOf (m .kept .opcode))
+      (thereOf (m .kept .opcode) (cyclesIn m) (m .next)) (ackedOf (m .kept) (m .next))
+      (bytesOf (m .kept) (doneOf (m .next))) (p .ready .fixed) (p .ready .listed) (p .ready .defined) (p .there)
+      (and-both (nameOf (m .kept) (doneOf (m .next))) (isNone (m .kept .ack) || not (idleOf (m .next))) (p .ready .named)
+      (p .awake)) (p .ready .bytes)
+
+-- a record with the rest right becomes well formed at a position that exists and is no halt state and no stop
+pub next-well : (m : Machine) (p : Position) → ReadyAt m (doneOf p) → There m p → T (not (idleOf p)) → T (wellOf (withNext p m))
+unfolding withNext
+next-well m p r t i =
+    well-of (withNext p m)
+    record { ready = r; there = t; awake = or-right (isNone (m .kept .ack)) (not (idleOf p)) i }
+
