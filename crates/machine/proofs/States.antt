@@ -1,0 +1,81 @@
+-- The states inside a cycle keep a record well formed.
+-- Assumes nothing.
+use Prim.Native.Nat.{ℕ, suc, _+_, _-_, _≤_, _<_}
+use mathlib.Core.Path.{_≡_, refl, sym, ap, subst}
+use mathlib.Core.Bool.{Bool, true, false, not, _&&_, _||_}
+use mathlib.Core.Logic.{⊎-elim}
+use native.Mathlib.Omega.{arith}
+use borrow.Author.Tests.{eqb-true, eqb-false, leb-true, lt-leb, le-leb, ne-eqb}
+use lib.Dec.{T, eqb, leb, eqb→eq, le→leb}
+use Rattle.laws.specs.Choice.{pick}
+use Rattle.laws.proofs.Every.{and-left, and-right}
+use Rattle.laws.proofs.Tests.{true→T, and-both, or-left, or-right, or-either, pick-both}
+use Rattle.opcodes.specs.Condition.{metOf}
+use Rattle.opcodes.specs.Cycles.{codeOf, countOf, definedOf, cycling}
+use Rattle.opcodes.specs.Kinds.{statesOf, waitsOf, readsOf, isNone}
+use Rattle.opcodes.proofs.Counts.{count-some, states-three, states-four}
+use Rattle.effect.specs.declared.kept.Kept.{Kept}
+use Rattle.effect.specs.Kept.{keepOf}
+use Rattle.machine.specs.declared.record.Position.{Position}
+use Rattle.machine.specs.declared.record.Position.the-variants.{Later, Wait, Stop}
+use Rattle.machine.specs.declared.record.Machine.{Machine}
+use Rattle.machine.specs.Record.{withNext, withRegs, withKept}
+use Rattle.machine.specs.Cycle.{cyclesOf, cycleOf}
+use Rattle.machine.specs.Ending.{clearOf, endOf}
+use Rattle.machine.specs.Step.{risenOf, waitOf, secondOf, fetchedOf, onwardOf, tookOf, thirdOf}
+use Rattle.machine.specs.Show.{restartOf}
+use Rattle.machine.specs.Well.{oneOf, thereOf, doneOf, idleOf, readOf, bytesOf, wellOf}
+use Rattle.machine.proofs.Parts.{nameOf, Ready, ReadyAt, cyclesIn, There, next-well}
+use Rattle.machine.proofs.Bytes.{Five, bytes-each, bytes-all, ready-more, ready-took}
+use Rattle.machine.proofs.Exists.{one-all, second-there, after-follows}
+use Rattle.machine.proofs.Ends.{clear-well, end-well}
+
+abbrev Well : Machine → Type 0
+Well m = T (wellOf m)
+
+-- cycle c of the machine's opcode, which exists, has three states or more
+pub three-in : (m : Machine) (c d : ℕ) → ReadyAt m d → c ≤ cyclesIn m → 3 ≤ statesOf (codeOf (m .kept .opcode) c)
+unfolding cyclesOf
+three-in m c d r l = states-three (m .kept .opcode) (r .defined) (metOf (m .kept .opcode) (m .regs .f)) c l
+
+-- after T2 or a wait, where c - 1 cycles have read; READY counts only where the cycle waits
+pub wait-well : (b : Bool) (c : ℕ) (m : Machine) → 1 ≤ c → c ≤ cyclesIn m → ReadyAt m (c - 1)
+    → (b ≡ true → T (waitsOf (codeOf (m .kept .opcode) c))) → T (wellOf (waitOf b c m))
+unfolding waitOf thereOf doneOf idleOf
+wait-well b c m l o r w =
+    pick-both (λ (p : Position). T (wellOf (withNext p m))) (b && eqb (m .lines .ready) 0) (Wait c) (Later c 3)
+    (λ e.
+    next-well m (Wait c) r
+    (and-both (oneOf (cyclesIn m) c) (waitsOf (codeOf (m .kept .opcode) c)) (one-all (cyclesIn m) c l o)
+    (w (and-true b (eqb (m .lines .ready) 0) e))) tt)
+    (λ e.
+    next-well m (Later c 3) r
+    (second-there (m .kept .opcode) (cyclesIn m) c 3 l o (omega arith) (three-in m c (c - 1) r o)) tt)
+  where
+    and-true : (x y : Bool) → (x && y) ≡ true → x ≡ true
+    and-true true y e = refl
+    and-true false y e = e
+
+-- T2
+pub second-well : (c : ℕ) (m : Machine) → 1 ≤ c → c ≤ cyclesIn m → ReadyAt m (c - 1)
+    → T (wellOf (secondOf (codeOf (m .kept .opcode) c) c m))
+unfolding secondOf withRegs risenOf
+second-well c m l o r =
+    wait-well (waitsOf (codeOf (m .kept .opcode) c)) c
+    (withRegs (risenOf (codeOf (m .kept .opcode) c) (m .kept) (m .regs)) m) l o r
+    (true→T (waitsOf (codeOf (m .kept .opcode) c)))
+
+-- after state s, from T3 on, whose changes are made
+pub onward-well : (c s : ℕ) (m : Machine) → 1 ≤ c → c ≤ cyclesIn m → ReadyAt m c
+    → 3 ≤ s → s ≤ statesOf (codeOf (m .kept .opcode) c)
+    → T (wellOf (onwardOf (cycleOf (m .kept .opcode) (m .regs .f) c) c s m))
+unfolding onwardOf cycleOf doneOf idleOf
+onward-well c s m l o r h g =
+    let code = codeOf (m .kept .opcode) c in
+    pick-both Well (eqb (statesOf code) s) (endOf c (cycleOf (m .kept .opcode) (m .regs .f) c .after) m)
+    (withNext (Later c (s + 1)) m)
+    (λ e. end-well c (cycleOf (m .kept .opcode) (m .regs .f) c .after) m l o r (after-follows (cyclesIn m) c))
+    (λ (e : eqb (statesOf code) s ≡ false).
+    let ne = eqb-false (statesOf code) s e in
+    next-well m (Later c (s + 1)) (rw (lt-leb (s + 1) 3 (omega arith)) r)
+    (second-there (m .kept .opcode) (cyclesIn m) c (s + 1) l o (omega arith) (omega arith)) tt)
