@@ -123,3 +123,57 @@ module _ (f : ℕ) (l : Lines) (k : Kept) (c v : ℕ) (h : 2 ≤ c) where
             rw later (read-took (k .opcode) (c - 1) c v 4 (k .b3) (omega arith) o (b .3)),
             rw later (read-took (k .opcode) (c - 1) c v 5 (k .b4) (omega arith) o (b .4)));
       }
+
+-- a byte of a later cycle is 0 where none has read
+none-read : (op i b : ℕ) → 1 ≤ i → T (readOf op 0 i b) → T (eqb b 0)
+unfolding readOf
+none-read op i b l t =
+    ⊎-elim (λ (z : T (eqb b 0)). z)
+    (λ (z : T (leb i 0 && readsOf (codeOf op i))).
+    let o = leb→le i 0 (and-left (leb i 0) (readsOf (codeOf op i)) z) in
+    absurd (let no : ⊥ = omega arith in no))
+    (or-either (eqb b 0) (leb i 0 && readsOf (codeOf op i)) t)
+
+-- so it is right for any opcode
+zero-read : (op o i e b : ℕ) → 1 ≤ i → T (readOf op 0 i b) → T (readOf o e i b)
+unfolding readOf
+zero-read op o i e b l t = or-left (eqb b 0) (leb i e && readsOf (codeOf o i)) (none-read op i b l t)
+
+-- of an acknowledge named, the opcode v is the RST of the number taken
+abbrev pub Names : ℕ → Kept → Type 0
+Names v k = T (isNone (k .ack) || eqb v (restartOf k))
+
+named-first : (k : Kept) (v e : ℕ) → Names v k → T (nameOf k 0) → T (nameOf (keepOf 1 v k) e)
+unfolding keepOf restartOf
+named-first k v e a t =
+    let first = isNone (k .ack) || eqb 0 0 || eqb (k .opcode) (restartOf k) in
+    let low = leb (k .rst) 7 in
+    let none = not (isNone (k .ack)) || eqb (k .rst) 0 in
+    let u = and-left (first && low) none t in
+    and-both ((isNone (k .ack) || eqb e 0 || eqb v (restartOf k)) && low) none
+    (and-both (isNone (k .ack) || eqb e 0 || eqb v (restartOf k)) low
+    (⊎-elim
+    (λ (z : T (isNone (k .ack))).
+    or-left (isNone (k .ack) || eqb e 0) (eqb v (restartOf k)) (or-left (isNone (k .ack)) (eqb e 0) z))
+    (λ (z : T (eqb v (restartOf k))). or-right (isNone (k .ack) || eqb e 0) (eqb v (restartOf k)) z)
+    (or-either (isNone (k .ack)) (eqb v (restartOf k)) a)) (and-right first low u)) (and-right (first && low) none t)
+
+-- the first cycle has read the opcode v, and no later one has read
+pub ready-first : (f : ℕ) (l : Lines) (k : Kept) (v e : ℕ) → 1 ≤ e → T (definedOf v) → Names v k → Ready f l k 0
+    → Ready f l (keepOf 1 v k) e
+unfolding keepOf
+ready-first f l k v e h d a r =
+    let b = bytes-each k 0 (r .bytes) in
+    record {
+      fixed = r .fixed;
+      listed = r .listed;
+      defined = d;
+      named = named-first k v e a (r .named);
+      bytes =
+          bytes-all (keepOf 1 v k) e
+          (or-right (eqb v 0) (leb 1 e) (le→leb 1 e h),
+          zero-read (k .opcode) v 2 e (k .b1) (omega arith) (b .1),
+          zero-read (k .opcode) v 3 e (k .b2) (omega arith) (b .2),
+          zero-read (k .opcode) v 4 e (k .b3) (omega arith) (b .3),
+          zero-read (k .opcode) v 5 e (k .b4) (omega arith) (b .4));
+    }

@@ -26,7 +26,7 @@ use Rattle.machine.specs.Step.{risenOf, waitOf, secondOf, fetchedOf, onw
 use Rattle.machine.specs.Show.{restartOf}
 use Rattle.machine.specs.Well.{oneOf, thereOf, doneOf, idleOf, readOf, bytesOf, wellOf}
 use Rattle.machine.proofs.Parts.{nameOf, Ready, ReadyAt, cyclesIn, There, next-well}
-use Rattle.machine.proofs.Bytes.{Five, bytes-each, bytes-all, ready-more, ready-took}
+use Rattle.machine.proofs.Bytes.{Five, bytes-each, bytes-all, Names, ready-more, ready-took, ready-first}
 use Rattle.machine.proofs.Exists.{one-all, second-there, after-follows}
 use Rattle.machine.proofs.Ends.{clear-well, end-well}
 
@@ -79,3 +79,46 @@ onward-well c s m l o r h g =
     let ne = eqb-false (statesOf code) s e in
     next-well m (Later c (s + 1)) (rw (lt-leb (s + 1) 3 (omega arith)) r)
     (second-there (m .kept .opcode) (cyclesIn m) c (s + 1) l o (omega arith) (omega arith)) tt)
+
+-- T3 of a fetch
+pub fetched-well : (v : ℕ) (m : Machine) → ReadyAt m 0 → Names v (m .kept) → T (wellOf (fetchedOf (definedOf v) v m))
+unfolding fetchedOf withKept keepOf cyclesOf thereOf doneOf idleOf
+fetched-well v m r a =
+    pick-both Well (definedOf v) (withNext (Later 1 4) (withKept (keepOf 1 v (m .kept)) m)) (clearOf Stop m)
+    (λ (e : definedOf v ≡ true).
+    let d = true→T (definedOf v) e in
+    next-well (withKept (keepOf 1 v (m .kept)) m) (Later 1 4)
+    (ready-first (m .regs .f) (m .lines) (m .kept) v 1 (omega arith) d a r)
+    (second-there v (cyclesOf v (m .regs .f)) 1 4 (omega arith) (count-some v d (metOf v (m .regs .f))) (omega arith)
+    (states-four v d)) tt)
+    (λ e. clear-well m Stop (r .fixed) (r .listed) tt)
+
+-- the same as onward-well, where the opcode is known to be op
+onward-as : (op c s : ℕ) (m : Machine) → m .kept .opcode ≡ op → 1 ≤ c → c ≤ cyclesOf op (m .regs .f) → ReadyAt m c
+    → 3 ≤ s → s ≤ statesOf (codeOf op c) → T (wellOf (onwardOf (cycleOf op (m .regs .f) c) c s m))
+onward-as op c s m e l o r h g =
+    subst
+    (λ (x : ℕ). c ≤ cyclesOf x (m .regs .f) → s ≤ statesOf (codeOf x c) → T (wellOf (onwardOf (cycleOf x (m .regs .f) c) c s m)))
+    e (λ o g. onward-well c s m l o r h g) o g
+
+-- T3
+pub third-well : (v c : ℕ) (m : Machine) → 1 ≤ c → c ≤ cyclesIn m → ReadyAt m (c - 1) → (c ≡ 1 → Names v (m .kept))
+    → T (wellOf (thirdOf (cycleOf (m .kept .opcode) (m .regs .f) c) c (definedOf v) v m))
+unfolding thirdOf tookOf withKept keepOf cycleOf
+third-well v c m l o r a =
+    let y = cycleOf (m .kept .opcode) (m .regs .f) c in
+    let three = three-in m c (c - 1) r o in
+    pick-both Well (eqb c 1) (fetchedOf (definedOf v) v m) (onwardOf y c 3 (tookOf (y .code) c v m))
+    (λ (e : eqb c 1 ≡ true).
+    let q = eqb-true c 1 e in
+    fetched-well v m (subst (ReadyAt m) (let z : c - 1 ≡ 0 = omega arith in z) r) (a q))
+    (λ (e : eqb c 1 ≡ false).
+    let ne = eqb-false c 1 e in
+    pick-both (λ (k : Kept). T (wellOf (onwardOf y c 3 (withKept k m)))) (readsOf (y .code)) (keepOf c v (m .kept)) (m .kept)
+    (λ (t : readsOf (y .code) ≡ true).
+    onward-as (m .kept .opcode) c 3 (withKept (keepOf c v (m .kept)) m) (rw e) l o
+    (ready-took (m .regs .f) (m .lines) (m .kept) c v (omega arith) (true→T (readsOf (codeOf (m .kept .opcode) c)) t) r)
+    (omega arith) three)
+    (λ t.
+    onward-as (m .kept .opcode) c 3 (withKept (m .kept) m) refl l o
+    (ready-more (m .regs .f) (m .lines) (m .kept) c (omega arith) r) (omega arith) three))
