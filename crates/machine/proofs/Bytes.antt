@@ -1,7 +1,7 @@
 -- What is kept stays right when a cycle after the first has read, or has nothing to read.
 -- Assumes nothing.
-use Prim.Native.Nat.{ℕ, _-_, _≤_, _<_}
-use mathlib.Core.Path.{_≡_, refl, sym, subst}
+use Prim.Native.Nat.{ℕ, _-_, _≤_}
+use mathlib.Core.Path.{_≡_, subst}
 use mathlib.Core.Bool.{Bool, true, false, not, _&&_, _||_}
 use mathlib.Core.Logic.{⊎-elim}
 use native.Mathlib.Omega.{arith}
@@ -9,7 +9,7 @@ use borrow.Author.Tests.{eqb-true, ne-eqb}
 use lib.Dec.{T, eqb, leb, leb→le, le→leb}
 use Rattle.laws.specs.Choice.{pick}
 use Rattle.laws.proofs.Every.{and-left, and-right}
-use Rattle.laws.proofs.Tests.{and-both, or-left, or-right, or-either, true→T, pick-both}
+use Rattle.laws.proofs.Tests.{and-both, or-left, or-right, or-either, pick-both}
 use Rattle.opcodes.specs.Cycles.{codeOf, definedOf}
 use Rattle.opcodes.specs.Kinds.{readsOf, isNone}
 use Rattle.effect.specs.declared.kept.Kept.{Kept}

@@ -1,30 +1,28 @@
 -- The end of a cycle and of an instruction keeps a record well formed: holds, interrupts, halting.
 -- Assumes nothing.
-use Prim.Native.Nat.{ℕ, suc, _+_, _-_, _≤_, _<_}
-use mathlib.Core.Path.{_≡_, refl, sym, ap, subst}
-use mathlib.Core.Bool.{Bool, true, false, not, _&&_, _||_}
+use Prim.Native.Nat.{ℕ, _-_, _≤_, _<_}
+use mathlib.Core.Path.{_≡_, refl, ap, subst}
+use mathlib.Core.Bool.{Bool, true, false, not, _&&_}
 use native.Mathlib.Omega.{arith}
-use borrow.Author.Tests.{eqb-true}
 use lib.Dec.{T, eqb, ltb, leb, ltb→lt, le→leb}
 use lib.ListN.{length}
 use Rattle.laws.specs.Choice.{pick}
-use Rattle.laws.proofs.Every.{and-left, and-right}
-use Rattle.laws.proofs.Tests.{true→T, and-both, or-left, or-right, pick-both}
+use Rattle.laws.proofs.Every.{and-left}
+use Rattle.laws.proofs.Tests.{true→T, and-both, or-right, pick-both}
 use Rattle.alu.specs.declared.flags.Flags.{Flags}
 use Rattle.alu.specs.Flags.{flagByteOf}
 use Rattle.alu.proofs.Laws.{flags-fixed}
 use Rattle.opcodes.specs.Condition.{metOf}
 use Rattle.opcodes.specs.Instructions.{Instruction, decode}
-use Rattle.opcodes.specs.Cycles.{cycles, codeOf, countOf, definedOf, cycling}
-use Rattle.opcodes.specs.Kinds.{statesOf, isNone}
+use Rattle.opcodes.specs.Cycles.{cycles, countOf, cycling}
+use Rattle.opcodes.specs.Kinds.{isNone}
 use Rattle.opcodes.specs.declared.cycle.Acknowledge.{Acknowledge}
-use Rattle.opcodes.specs.declared.cycle.Acknowledge.the-variants.{None, Running, Halted}
+use Rattle.opcodes.specs.declared.cycle.Acknowledge.the-variants.{Running, Halted}
 use Rattle.opcodes.proofs.Counts.{states-three}
 use Rattle.effect.specs.declared.registers.Registers.{Registers}
 use Rattle.effect.specs.declared.kept.Kept.{Kept}
-use Rattle.effect.specs.Registers.{withInte}
 use Rattle.effect.specs.Kept.{keptFor}
-use Rattle.effect.specs.Effect.{finish, effectOf}
+use Rattle.effect.specs.Effect.{effectOf}
 use Rattle.effect.proofs.After.{After, kept, changed, after-is}
 use Rattle.machine.specs.declared.record.Lines.{Lines}
 use Rattle.machine.specs.declared.record.Position.{Position}
@@ -33,16 +31,13 @@ use Rattle.machine.specs.declared.record.Machine.{Machine}
 use Rattle.machine.specs.Record.{withNext, withRegs}
 use Rattle.machine.specs.Cycle.{cyclesOf}
 use Rattle.machine.specs.Ending.{takesOf, acknowledgeOf, clearOf, isHlt, endedOf, followOf, holds, holdOf, endOf}
-use Rattle.machine.specs.Well.{fixedOf, listedOf, thereOf, doneOf, idleOf, readOf, bytesOf, wellOf}
-use Rattle.machine.proofs.Parts.{Ready, ReadyAt, cyclesIn, There, Parts, well-of, next-well}
+use Rattle.machine.specs.Well.{fixedOf, listedOf, thereOf, doneOf, idleOf, readOf, bytesOf}
+use Rattle.machine.proofs.Parts.{Well, ReadyAt, cyclesIn, well-of, next-well}
 use Rattle.machine.proofs.Exists.{Follows, one-all, start-there}
-
-abbrev Well : Machine → Type 0
-Well m = T (wellOf m)
 
 -- nothing is kept, and p is next
 pub clear-well : (m : Machine) (p : Position) → T (fixedOf (m .regs .f)) → T (listedOf (m .lines))
-    → T (thereOf 0 (cyclesOf 0 (m .regs .f)) p) → T (wellOf (clearOf p m))
+    → T (thereOf 0 (cyclesOf 0 (m .regs .f)) p) → Well (clearOf p m)
 unfolding clearOf keptFor bytesOf readOf cycling
 clear-well m p f l t =
     well-of (clearOf p m)
@@ -55,7 +50,7 @@ lowered l t =
 
 -- the acknowledge of restart n is next
 acknowledge-well : (m : Machine) (a : Acknowledge) → isNone a ≡ false → T (fixedOf (m .regs .f)) → T (listedOf (m .lines))
-    → m .lines .int < 8 → T (wellOf (acknowledgeOf a m))
+    → m .lines .int < 8 → Well (acknowledgeOf a m)
 unfolding acknowledgeOf keptFor listedOf thereOf idleOf doneOf bytesOf readOf cycling
 acknowledge-well m a e f l i =
     well-of (acknowledgeOf a m)
@@ -83,7 +78,7 @@ taken-int m e =
     (and-left (ltb (m .lines .int) 8 && m .regs .inte) (not (eqb (m .kept .opcode) 0xFB)) t))
 
 -- the instruction is over
-pub ended-well : (m : Machine) → T (fixedOf (m .regs .f)) → T (listedOf (m .lines)) → T (wellOf (endedOf m))
+pub ended-well : (m : Machine) → T (fixedOf (m .regs .f)) → T (listedOf (m .lines)) → Well (endedOf m)
 unfolding endedOf thereOf
 ended-well m f l =
     pick-both Well (takesOf m) (acknowledgeOf (pick (isHlt m) Halted Running) m) (clearOf (pick (isHlt m) Halt Fetch) m)
@@ -96,7 +91,7 @@ ended-well m f l =
     (pick-both (λ (p : Position). T (thereOf 0 (cyclesOf 0 (m .regs .f)) p)) (isHlt m) Halt Fetch (λ z. tt) (λ z. tt)))
 
 -- the cycle c and its holds are over; n is the cycle after it
-pub follow-well : (c n : ℕ) (m : Machine) → 1 ≤ c → ReadyAt m c → Follows (cyclesIn m) c n → T (wellOf (followOf n m))
+pub follow-well : (c n : ℕ) (m : Machine) → 1 ≤ c → ReadyAt m c → Follows (cyclesIn m) c n → Well (followOf n m)
 unfolding followOf doneOf idleOf cyclesOf
 follow-well c n m l r s =
     pick-both Well (eqb n 0) (endedOf m) (withNext (Later n 1) m) (λ e. ended-well m (r .fixed) (r .listed))
@@ -108,7 +103,7 @@ follow-well c n m l r s =
 
 -- all changes of the cycle are made
 pub hold-well : (c n : ℕ) (m : Machine) → 1 ≤ c → c ≤ cyclesIn m → ReadyAt m c → Follows (cyclesIn m) c n
-    → T (wellOf (holdOf c n m))
+    → Well (holdOf c n m)
 unfolding holdOf thereOf doneOf idleOf
 hold-well c n m l o r s =
     pick-both Well (holds m) (withNext (Hold c) m) (followOf n m)
@@ -134,7 +129,7 @@ effect-flags k r h =
 
 -- the last state of the cycle c
 pub end-well : (c n : ℕ) (m : Machine) → 1 ≤ c → c ≤ cyclesIn m → ReadyAt m c → Follows (cyclesIn m) c n
-    → T (wellOf (endOf c n m))
+    → Well (endOf c n m)
 unfolding endOf withRegs
 end-well c n m l o r s =
     let new = pick (eqb n 0) (effectOf (m .kept) (m .regs)) (m .regs) in

@@ -1,17 +1,16 @@
 -- Which positions exist for an opcode: the test of a later state taken apart and put together, and the cycle after one.
 -- Assumes nothing.
-use Prim.Native.Nat.{ℕ, suc, _+_, _≤_, _<_}
-use mathlib.Core.Path.{_≡_, refl}
+use Prim.Native.Nat.{ℕ, suc, _+_, _≤_}
+use mathlib.Core.Path.{_≡_}
 use mathlib.Core.Bool.{Bool, true, false, not, _&&_, true≢false}
 use native.Mathlib.Omega.{arith}
 use borrow.Author.Tests.{ne-eqb, leb-false}
 use lib.Dec.{T, eqb, leb, leb→le, le→leb}
-use Rattle.laws.specs.Choice.{pick}
 use Rattle.laws.proofs.Every.{and-left, and-right}
 use Rattle.laws.proofs.Tests.{and-both, pick-both}
 use Rattle.opcodes.specs.Cycles.{codeOf}
-use Rattle.opcodes.specs.Kinds.{statesOf, waitsOf}
-use Rattle.machine.specs.declared.record.Position.the-variants.{Later, Wait, Hold}
+use Rattle.opcodes.specs.Kinds.{statesOf}
+use Rattle.machine.specs.declared.record.Position.the-variants.{Later}
 use Rattle.machine.specs.Cycle.{afterOf}
 use Rattle.machine.specs.Well.{oneOf, stateOf, thereOf}
 

@@ -1,41 +1,37 @@
 -- One state keeps a well-formed record well formed.
 -- Assumes nothing.
-use Prim.Native.Nat.{ℕ, _-_, _≤_, _<_}
-use mathlib.Core.Path.{_≡_, refl, subst, sym}
-use mathlib.Core.Bool.{Bool, true, false, not, _&&_, _||_, true≢false}
+use Prim.Native.Nat.{ℕ, _-_, _≤_}
+use mathlib.Core.Path.{_≡_, refl, subst}
+use mathlib.Core.Bool.{true, false, _||_, true≢false}
 use mathlib.Core.Logic.{_⊎_, inl, inr, ⊎-elim}
 use native.Mathlib.Omega.{arith}
 use borrow.Author.Tests.{eqb-true, eqb-false, le-leb, lt-leb, eq-eqb}
-use lib.Dec.{T, eqb, eqb→eq, eqb-refl}
+use lib.Dec.{T, eqb, eqb→eq}
 use Rattle.laws.specs.Choice.{pick}
 use Rattle.laws.proofs.Every.{and-left, and-right}
-use Rattle.laws.proofs.Tests.{true→T, or-left, or-right, or-either, pick-both}
+use Rattle.laws.proofs.Tests.{true→T, or-left, or-either, pick-both}
 use Rattle.opcodes.specs.Condition.{metOf}
 use Rattle.opcodes.specs.Cycles.{codeOf, definedOf, cycling}
-use Rattle.opcodes.specs.Kinds.{statesOf, waitsOf, kindOf, fetchKind, isNone}
+use Rattle.opcodes.specs.Kinds.{waitsOf, kindOf, fetchKind, isNone}
 use Rattle.opcodes.specs.declared.cycle.Acknowledge.{Acknowledge}
 use Rattle.opcodes.specs.declared.cycle.Acknowledge.the-variants.{None, Running, Halted}
 use Rattle.opcodes.proofs.Counts.{count-some}
-use Rattle.effect.specs.declared.kept.Kept.{Kept}
 use Rattle.effect.specs.Kept.{keepOf}
 use Rattle.machine.specs.declared.record.Position.{Position}
 use Rattle.machine.specs.declared.record.Position.the-variants.{Fetch, Later, Wait, Hold, Halt, Stop}
 use Rattle.machine.specs.declared.record.Machine.{Machine}
 use Rattle.machine.specs.declared.show.Request.the-variants.{Restart}
-use Rattle.machine.specs.Record.{withNext, withKept, withClock, tickedOf}
+use Rattle.machine.specs.Record.{withNext, withKept, withClock}
 use Rattle.machine.specs.Cycle.{cyclesOf, cycleOf}
-use Rattle.machine.specs.Ending.{holdOf, endOf}
+use Rattle.machine.specs.Ending.{endOf}
 use Rattle.machine.specs.Step.{secondOf, thirdOf, onwardOf, laterOf, haltedOf, movedOf, stepOf}
 use Rattle.machine.specs.Show.{placeOf, shownOf, lookAt, lookOf, restartOf, askedOf, requestOf}
 use Rattle.machine.specs.Well.{oneOf, thereOf, doneOf, idleOf, wellOf}
-use Rattle.machine.proofs.Parts.{Ready, ReadyAt, cyclesIn, There, Parts, parts-of, well-of, next-well}
+use Rattle.machine.proofs.Parts.{Well, ReadyAt, cyclesIn, There, Parts, parts-of, next-well}
 use Rattle.machine.proofs.Bytes.{Names, bytes-each, ready-first}
 use Rattle.machine.proofs.Exists.{one-each, later-each, second-there, after-follows}
 use Rattle.machine.proofs.Ends.{hold-well, end-well}
 use Rattle.machine.proofs.States.{three-in, wait-well, second-well, onward-well, third-well}
-
-abbrev Well : Machine → Type 0
-Well m = T (wellOf m)
 
 early : (c s : ℕ) → s ≤ 3 → doneOf (Later c s) ≡ c - 1
 unfolding doneOf
@@ -48,7 +44,7 @@ late c s l = rw (lt-leb s 3 l)
 -- state s of cycle c
 later-well : (v c s : ℕ) (m : Machine) → ReadyAt m (doneOf (Later c s)) → There m (Later c s)
     → (c ≡ 1 → s ≡ 3 → Names v (m .kept))
-    → T (wellOf (laterOf (cycleOf (m .kept .opcode) (m .regs .f) c) c s (definedOf v) v m))
+    → Well (laterOf (cycleOf (m .kept .opcode) (m .regs .f) c) c s (definedOf v) v m)
 unfolding laterOf cycleOf doneOf idleOf
 later-well v c s m r t a =
     let op = m .kept .opcode in
@@ -82,7 +78,7 @@ later-well v c s m r t a =
     (λ e. end-well c (y .after) m l o r4 (after-follows n c)))))
 
 -- a halt state
-halted-well : (m : Machine) → ReadyAt m 0 → T (isNone (m .kept .ack)) → T (wellOf (haltedOf m))
+halted-well : (m : Machine) → ReadyAt m 0 → T (isNone (m .kept .ack)) → Well (haltedOf m)
 unfolding haltedOf withKept keepOf cyclesOf cycling
 halted-well m r a =
     hold-well 2 0 (withKept (keepOf 1 0x76 (m .kept)) m) (omega arith) (omega arith)
@@ -91,8 +87,8 @@ halted-well m r a =
     (λ e. absurd (true≢false e))
 
 -- the state at a position, the clock apart
-moved-well : (p : Position) (v : ℕ) (m : Machine) → T (wellOf m) → Parts m p → (p ≡ Later 1 3 → Names v (m .kept))
-    → T (wellOf (movedOf p v m))
+moved-well : (p : Position) (v : ℕ) (m : Machine) → Well m → Parts m p → (p ≡ Later 1 3 → Names v (m .kept))
+    → Well (movedOf p v m)
 unfolding movedOf cycleOf thereOf doneOf idleOf cyclesOf
 moved-well Fetch v m w p a =
     let op = m .kept .opcode in

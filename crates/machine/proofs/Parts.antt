@@ -1,26 +1,20 @@
 -- A well-formed record taken apart and put together: what does not depend on the position, and what does.
 -- Assumes nothing.
-use Prim.Native.Nat.{ℕ, _≤_, _<_}
-use mathlib.Core.Path.{_≡_, refl, sym, subst}
-use mathlib.Core.Bool.{Bool, true, false, not, _&&_, _||_}
-use mathlib.Core.Logic.{⊎-elim}
-use native.Mathlib.Omega.{arith}
-use borrow.Author.Tests.{eqb-true, ne-eqb}
-use lib.Dec.{T, eqb, leb, leb→le, le→leb}
-use Rattle.laws.specs.Choice.{pick}
+use Prim.Native.Nat.{ℕ}
+use mathlib.Core.Bool.{Bool, not, _&&_, _||_}
+use lib.Dec.{T, eqb, leb}
 use Rattle.laws.proofs.Every.{and-left, and-right}
-use Rattle.laws.proofs.Tests.{and-both, or-left, or-right, or-either, pick-both}
-use Rattle.opcodes.specs.Cycles.{codeOf, definedOf}
-use Rattle.opcodes.specs.Kinds.{readsOf, isNone}
+use Rattle.laws.proofs.Tests.{and-both, or-right}
+use Rattle.opcodes.specs.Cycles.{definedOf}
+use Rattle.opcodes.specs.Kinds.{isNone}
 use Rattle.effect.specs.declared.kept.Kept.{Kept}
-use Rattle.effect.specs.Kept.{keepOf}
 use Rattle.machine.specs.declared.record.Lines.{Lines}
 use Rattle.machine.specs.declared.record.Position.{Position}
 use Rattle.machine.specs.declared.record.Machine.{Machine}
 use Rattle.machine.specs.Record.{withNext}
 use Rattle.machine.specs.Cycle.{cyclesOf}
 use Rattle.machine.specs.Show.{restartOf}
-use Rattle.machine.specs.Well.{fixedOf, listedOf, thereOf, doneOf, idleOf, ackedOf, readOf, bytesOf, wellOf}
+use Rattle.machine.specs.Well.{fixedOf, listedOf, thereOf, doneOf, idleOf, ackedOf, bytesOf, wellOf}
 
 -- the acknowledge named and the number taken are right where d cycles have read
 abbrev pub nameOf : Kept → ℕ → Bool
@@ -51,6 +45,10 @@ There m p = T (thereOf (m .kept .opcode) (cyclesIn m) p)
 abbrev pub Awake : Machine → Position → Type 0
 Awake m p = T (isNone (m .kept .ack) || not (idleOf p))
 
+-- the machine's record is well formed
+abbrev pub Well : Machine → Type 0
+Well m = T (wellOf m)
+
 -- all of it at the position p
 pub record Parts (m : Machine) (p : Position) : Type 0 where
   pub ready : ReadyAt m (doneOf p)
@@ -73,7 +71,7 @@ module _ (a b c d e g : Bool) where
 
 -- a well-formed record has the parts, and a record with the parts is well formed
 module _ (m : Machine) where
-  pub parts-of : T (wellOf m) → Parts m (m .next)
+  pub parts-of : Well m → Parts m (m .next)
   unfolding wellOf ackedOf
   parts-of t =
       let s =
@@ -93,7 +91,7 @@ module _ (m : Machine) where
         awake = and-right (nameOf (m .kept) (doneOf (m .next))) (isNone (m .kept .ack) || not (idleOf (m .next))) (s .4);
       }
 
-  pub well-of : Parts m (m .next) → T (wellOf m)
+  pub well-of : Parts m (m .next) → Well m
   unfolding wellOf ackedOf
   well-of p =
       six-all (fixedOf (m .regs .f)) (listedOf (m .lines)) (definedOf (m .kept .opcode))
@@ -103,7 +101,7 @@ module _ (m : Machine) where
       (p .awake)) (p .ready .bytes)
 
 -- a record with the rest right becomes well formed at a position that exists and is no halt state and no stop
-pub next-well : (m : Machine) (p : Position) → ReadyAt m (doneOf p) → There m p → T (not (idleOf p)) → T (wellOf (withNext p m))
+pub next-well : (m : Machine) (p : Position) → ReadyAt m (doneOf p) → There m p → T (not (idleOf p)) → Well (withNext p m)
 unfolding withNext
 next-well m p r t i =
     well-of (withNext p m)

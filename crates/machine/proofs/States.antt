@@ -1,18 +1,15 @@
 -- The states inside a cycle keep a record well formed.
 -- Assumes nothing.
-use Prim.Native.Nat.{ℕ, suc, _+_, _-_, _≤_, _<_}
-use mathlib.Core.Path.{_≡_, refl, sym, ap, subst}
-use mathlib.Core.Bool.{Bool, true, false, not, _&&_, _||_}
-use mathlib.Core.Logic.{⊎-elim}
+use Prim.Native.Nat.{ℕ, _+_, _-_, _≤_}
+use mathlib.Core.Path.{_≡_, refl, subst}
+use mathlib.Core.Bool.{Bool, true, false, _&&_}
 use native.Mathlib.Omega.{arith}
-use borrow.Author.Tests.{eqb-true, eqb-false, leb-true, lt-leb, le-leb, ne-eqb}
-use lib.Dec.{T, eqb, leb, eqb→eq, le→leb}
-use Rattle.laws.specs.Choice.{pick}
-use Rattle.laws.proofs.Every.{and-left, and-right}
-use Rattle.laws.proofs.Tests.{true→T, and-both, or-left, or-right, or-either, pick-both}
+use borrow.Author.Tests.{eqb-true, eqb-false, lt-leb}
+use lib.Dec.{T, eqb}
+use Rattle.laws.proofs.Tests.{true→T, and-both, pick-both}
 use Rattle.opcodes.specs.Condition.{metOf}
-use Rattle.opcodes.specs.Cycles.{codeOf, countOf, definedOf, cycling}
-use Rattle.opcodes.specs.Kinds.{statesOf, waitsOf, readsOf, isNone}
+use Rattle.opcodes.specs.Cycles.{codeOf, definedOf}
+use Rattle.opcodes.specs.Kinds.{statesOf, waitsOf, readsOf}
 use Rattle.opcodes.proofs.Counts.{count-some, states-three, states-four}
 use Rattle.effect.specs.declared.kept.Kept.{Kept}
 use Rattle.effect.specs.Kept.{keepOf}
@@ -23,15 +20,11 @@ use Rattle.machine.specs.Record.{withNext, withRegs, withKept}
 use Rattle.machine.specs.Cycle.{cyclesOf, cycleOf}
 use Rattle.machine.specs.Ending.{clearOf, endOf}
 use Rattle.machine.specs.Step.{risenOf, waitOf, secondOf, fetchedOf, onwardOf, tookOf, thirdOf}
-use Rattle.machine.specs.Show.{restartOf}
-use Rattle.machine.specs.Well.{oneOf, thereOf, doneOf, idleOf, readOf, bytesOf, wellOf}
-use Rattle.machine.proofs.Parts.{nameOf, Ready, ReadyAt, cyclesIn, There, next-well}
-use Rattle.machine.proofs.Bytes.{Five, bytes-each, bytes-all, Names, ready-more, ready-took, ready-first}
+use Rattle.machine.specs.Well.{oneOf, thereOf, doneOf, idleOf}
+use Rattle.machine.proofs.Parts.{Well, ReadyAt, cyclesIn, next-well}
+use Rattle.machine.proofs.Bytes.{Names, ready-more, ready-took, ready-first}
 use Rattle.machine.proofs.Exists.{one-all, second-there, after-follows}
 use Rattle.machine.proofs.Ends.{clear-well, end-well}
-
-abbrev Well : Machine → Type 0
-Well m = T (wellOf m)
 
 -- cycle c of the machine's opcode, which exists, has three states or more
 pub three-in : (m : Machine) (c d : ℕ) → ReadyAt m d → c ≤ cyclesIn m → 3 ≤ statesOf (codeOf (m .kept .opcode) c)
@@ -40,10 +33,10 @@ three-in m c d r l = states-three (m .kept .opcode) (r .defined) (metOf (m .kept
 
 -- after T2 or a wait, where c - 1 cycles have read; READY counts only where the cycle waits
 pub wait-well : (b : Bool) (c : ℕ) (m : Machine) → 1 ≤ c → c ≤ cyclesIn m → ReadyAt m (c - 1)
-    → (b ≡ true → T (waitsOf (codeOf (m .kept .opcode) c))) → T (wellOf (waitOf b c m))
+    → (b ≡ true → T (waitsOf (codeOf (m .kept .opcode) c))) → Well (waitOf b c m)
 unfolding waitOf thereOf doneOf idleOf
 wait-well b c m l o r w =
-    pick-both (λ (p : Position). T (wellOf (withNext p m))) (b && eqb (m .lines .ready) 0) (Wait c) (Later c 3)
+    pick-both (λ (p : Position). Well (withNext p m)) (b && eqb (m .lines .ready) 0) (Wait c) (Later c 3)
     (λ e.
     next-well m (Wait c) r
     (and-both (oneOf (cyclesIn m) c) (waitsOf (codeOf (m .kept .opcode) c)) (one-all (cyclesIn m) c l o)
@@ -58,7 +51,7 @@ wait-well b c m l o r w =
 
 -- T2
 pub second-well : (c : ℕ) (m : Machine) → 1 ≤ c → c ≤ cyclesIn m → ReadyAt m (c - 1)
-    → T (wellOf (secondOf (codeOf (m .kept .opcode) c) c m))
+    → Well (secondOf (codeOf (m .kept .opcode) c) c m)
 unfolding secondOf withRegs risenOf
 second-well c m l o r =
     wait-well (waitsOf (codeOf (m .kept .opcode) c)) c
@@ -68,7 +61,7 @@ second-well c m l o r =
 -- after state s, from T3 on, whose changes are made
 pub onward-well : (c s : ℕ) (m : Machine) → 1 ≤ c → c ≤ cyclesIn m → ReadyAt m c
     → 3 ≤ s → s ≤ statesOf (codeOf (m .kept .opcode) c)
-    → T (wellOf (onwardOf (cycleOf (m .kept .opcode) (m .regs .f) c) c s m))
+    → Well (onwardOf (cycleOf (m .kept .opcode) (m .regs .f) c) c s m)
 unfolding onwardOf cycleOf doneOf idleOf
 onward-well c s m l o r h g =
     let code = codeOf (m .kept .opcode) c in
@@ -81,7 +74,7 @@ onward-well c s m l o r h g =
     (second-there (m .kept .opcode) (cyclesIn m) c (s + 1) l o (omega arith) (omega arith)) tt)
 
 -- T3 of a fetch
-pub fetched-well : (v : ℕ) (m : Machine) → ReadyAt m 0 → Names v (m .kept) → T (wellOf (fetchedOf (definedOf v) v m))
+pub fetched-well : (v : ℕ) (m : Machine) → ReadyAt m 0 → Names v (m .kept) → Well (fetchedOf (definedOf v) v m)
 unfolding fetchedOf withKept keepOf cyclesOf thereOf doneOf idleOf
 fetched-well v m r a =
     pick-both Well (definedOf v) (withNext (Later 1 4) (withKept (keepOf 1 v (m .kept)) m)) (clearOf Stop m)
@@ -95,15 +88,15 @@ fetched-well v m r a =
 
 -- the same as onward-well, where the opcode is known to be op
 onward-as : (op c s : ℕ) (m : Machine) → m .kept .opcode ≡ op → 1 ≤ c → c ≤ cyclesOf op (m .regs .f) → ReadyAt m c
-    → 3 ≤ s → s ≤ statesOf (codeOf op c) → T (wellOf (onwardOf (cycleOf op (m .regs .f) c) c s m))
+    → 3 ≤ s → s ≤ statesOf (codeOf op c) → Well (onwardOf (cycleOf op (m .regs .f) c) c s m)
 onward-as op c s m e l o r h g =
     subst
-    (λ (x : ℕ). c ≤ cyclesOf x (m .regs .f) → s ≤ statesOf (codeOf x c) → T (wellOf (onwardOf (cycleOf x (m .regs .f) c) c s m)))
+    (λ (x : ℕ). c ≤ cyclesOf x (m .regs .f) → s ≤ statesOf (codeOf x c) → Well (onwardOf (cycleOf x (m .regs .f) c) c s m))
     e (λ o g. onward-well c s m l o r h g) o g
 
 -- T3
 pub third-well : (v c : ℕ) (m : Machine) → 1 ≤ c → c ≤ cyclesIn m → ReadyAt m (c - 1) → (c ≡ 1 → Names v (m .kept))
-    → T (wellOf (thirdOf (cycleOf (m .kept .opcode) (m .regs .f) c) c (definedOf v) v m))
+    → Well (thirdOf (cycleOf (m .kept .opcode) (m .regs .f) c) c (definedOf v) v m)
 unfolding thirdOf tookOf withKept keepOf cycleOf
 third-well v c m l o r a =
     let y = cycleOf (m .kept .opcode) (m .regs .f) c in
@@ -114,7 +107,7 @@ third-well v c m l o r a =
     fetched-well v m (subst (ReadyAt m) (let z : c - 1 ≡ 0 = omega arith in z) r) (a q))
     (λ (e : eqb c 1 ≡ false).
     let ne = eqb-false c 1 e in
-    pick-both (λ (k : Kept). T (wellOf (onwardOf y c 3 (withKept k m)))) (readsOf (y .code)) (keepOf c v (m .kept)) (m .kept)
+    pick-both (λ (k : Kept). Well (onwardOf y c 3 (withKept k m))) (readsOf (y .code)) (keepOf c v (m .kept)) (m .kept)
     (λ (t : readsOf (y .code) ≡ true).
     onward-as (m .kept .opcode) c 3 (withKept (keepOf c v (m .kept)) m) (rw e) l o
     (ready-took (m .regs .f) (m .lines) (m .kept) c v (omega arith) (true→T (readsOf (codeOf (m .kept .opcode) c)) t) r)

@@ -1,12 +1,12 @@
 -- How many cycles and states there are, by computed tests over all opcodes.
 -- Assumes nothing.
 use Prim.Native.Nat.{ℕ, _/_, _%_, _<_, _≤_}
-use mathlib.Core.Path.{_≡_, refl, sym, subst}
+use mathlib.Core.Path.{_≡_, subst}
 use mathlib.Core.Bool.{Bool, true, false, not, _&&_, _||_}
 use mathlib.Core.List.{[], _∷_}
 use mathlib.Core.Logic.{⊎-elim}
 use native.Mathlib.Omega.{arith}
-use lib.Dec.{T, eqb, leb, leb→le}
+use lib.Dec.{T, leb, leb→le}
 use lib.ListN.{List·getD-eq-default}
 use Rattle.laws.proofs.Every.{every, below, either, and-left, and-right}
 use Rattle.laws.proofs.Order.{lt-or-le}
