@@ -44,19 +44,6 @@ read-took op d c v i b l h t =
     (subst (λ (j : ℕ). T (readsOf (codeOf op j))) q h)))
     (λ (e : eqb c i ≡ false). read-more op d c i b l t)
 
-module _ (a b c d e : Bool) where
-  five-each : T (a && b && c && d && e) → T a × T b × T c × T d × T e
-  five-each t = (
-    search (and-left, and-right),
-    search (and-left, and-right),
-    search (and-left, and-right),
-    search (and-left, and-right),
-    search (and-left, and-right),
-  )
-
-  five-all : T a → T b → T c → T d → T e → T (a && b && c && d && e)
-  five-all s t u v w = search and-both depth 8
-
 -- the tests of the five bytes kept, where d cycles have read
 abbrev pub Five : Kept → ℕ → Type 0
 Five k d =
@@ -68,20 +55,16 @@ Five k d =
 
 pub bytes-each : (k : Kept) (d : ℕ) → T (bytesOf k d) → Five k d
 unfolding bytesOf
-bytes-each k d t =
-    five-each (eqb (k .opcode) 0 || leb 1 d) (readOf (k .opcode) d 2 (k .b1)) (readOf (k .opcode) d 3 (k .b2))
-    (readOf (k .opcode) d 4 (k .b3)) (readOf (k .opcode) d 5 (k .b4)) t
+bytes-each k d t = search (and-left, and-right)
 
 pub bytes-all : (k : Kept) (d : ℕ) → Five k d → T (bytesOf k d)
 unfolding bytesOf
-bytes-all k d f =
-    five-all (eqb (k .opcode) 0 || leb 1 d) (readOf (k .opcode) d 2 (k .b1)) (readOf (k .opcode) d 3 (k .b2))
-    (readOf (k .opcode) d 4 (k .b3)) (readOf (k .opcode) d 5 (k .b4)) (f .0) (f .1) (f .2) (f .3) (f .4)
+bytes-all k d f = search and-both depth 8
 
 -- the acknowledge named stays right once a cycle has read
 named-more : (k : Kept) (d e : ℕ) → 1 ≤ d → 1 ≤ e → T (nameOf k d) → T (nameOf k e)
 named-more k d e l j t =
-    rw (ne-eqb e 0 (λ q. let z : ⊥ = omega arith in z)) (rw (ne-eqb d 0 (λ q. let z : ⊥ = omega arith in z)) at t)
+    rw (ne-eqb e 0 (λ q. omega arith)) (rw (ne-eqb d 0 (λ q. omega arith)) at t)
 
 -- cycle c, which is not the first, reads nothing
 pub ready-more : (f : ℕ) (l : Lines) (k : Kept) (c : ℕ) → 2 ≤ c → Ready f l k (c - 1) → Ready f l k c
@@ -103,7 +86,7 @@ ready-more f l k c h r =
 
 module _ (f : ℕ) (l : Lines) (k : Kept) (c v : ℕ) (h : 2 ≤ c) where
   later : eqb c 1 ≡ false
-  later = ne-eqb c 1 (λ q. let z : ⊥ = omega arith in z)
+  later = ne-eqb c 1 (λ q. omega arith)
 
   -- it reads v
   pub ready-took : T (readsOf (codeOf (k .opcode) c)) → Ready f l k (c - 1) → Ready f l (keepOf c v k) c

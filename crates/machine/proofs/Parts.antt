@@ -55,50 +55,14 @@ pub record Parts (m : Machine) (p : Position) : Type 0 where
   pub there : There m p
   pub awake : Awake m p
 
-module _ (a b c d e g : Bool) where
-  six-each : T (a && b && c && d && e && g) → T a × T b × T c × T d × T e × T g
-  six-each t = (
-    search (and-left, and-right),
-    search (and-left, and-right),
-    search (and-left, and-right),
-    search (and-left, and-right),
-    search (and-left, and-right),
-    search (and-left, and-right),
-  )
-
-  six-all : T a → T b → T c → T d → T e → T g → T (a && b && c && d && e && g)
-  six-all s t u v w x = search and-both depth 8
-
 -- a well-formed record has the parts, and a record with the parts is well formed
-module _ (m : Machine) where
-  pub parts-of : Well m → Parts m (m .next)
-  unfolding wellOf ackedOf
-  parts-of t =
-      let s =
-          six-each (fixedOf (m .regs .f)) (listedOf (m .lines)) (definedOf (m .kept .opcode))
-          (thereOf (m .kept .opcode) (cyclesIn m) (m .next)) (ackedOf (m .kept) (m .next))
-          (bytesOf (m .kept) (doneOf (m .next))) t in
-      record {
-        ready =
-            record {
-              fixed = s .0;
-              listed = s .1;
-              defined = s .2;
-              named = and-left (nameOf (m .kept) (doneOf (m .next))) (isNone (m .kept .ack) || not (idleOf (m .next))) (s .4);
-              bytes = s .5;
-            };
-        there = s .3;
-        awake = and-right (nameOf (m .kept) (doneOf (m .next))) (isNone (m .kept .ack) || not (idleOf (m .next))) (s .4);
-      }
+pub parts-of : (m : Machine) → Well m → Parts m (m .next)
+unfolding wellOf ackedOf
+parts-of m t = search (and-left, and-right)
 
-  pub well-of : Parts m (m .next) → Well m
-  unfolding wellOf ackedOf
-  well-of p =
-      six-all (fixedOf (m .regs .f)) (listedOf (m .lines)) (definedOf (m .kept .opcode))
-      (thereOf (m .kept .opcode) (cyclesIn m) (m .next)) (ackedOf (m .kept) (m .next))
-      (bytesOf (m .kept) (doneOf (m .next))) (p .ready .fixed) (p .ready .listed) (p .ready .defined) (p .there)
-      (and-both (nameOf (m .kept) (doneOf (m .next))) (isNone (m .kept .ack) || not (idleOf (m .next))) (p .ready .named)
-      (p .awake)) (p .ready .bytes)
+pub well-of : (m : Machine) → Parts m (m .next) → Well m
+unfolding wellOf ackedOf
+well-of m p = search and-both depth 8
 
 -- a record with the rest right becomes well formed at a position that exists and is no halt state and no stop
 pub next-well : (m : Machine) (p : Position) → ReadyAt m (doneOf p) → There m p → T (not (idleOf p)) → Well (withNext p m)
