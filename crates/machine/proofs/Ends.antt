@@ -43,10 +43,10 @@ clear-well m p f l t =
     well-of (clearOf p m)
     record { ready = record { fixed = f; listed = l; defined = tt; named = tt; bytes = tt }; there = t; awake = tt }
 
+-- the lines with INT down
 lowered : (l : Lines) → T (listedOf l) → T (leb (l .ready) 1 && leb (l .hold) 1 && true)
 unfolding listedOf
-lowered l t =
-    and-both (leb (l .ready) 1 && leb (l .hold) 1) true (and-left (leb (l .ready) 1 && leb (l .hold) 1) (leb (l .int) 8) t) tt
+lowered l t = search (and-both, and-left)
 
 -- the acknowledge of restart n is next
 acknowledge-well : (m : Machine) (a : Acknowledge) → isNone a ≡ false → T (fixedOf (m .regs .f)) → T (listedOf (m .lines))
@@ -69,13 +69,10 @@ acknowledge-well m a e f l i =
       awake = or-right (isNone a) true tt;
     }
 
-taken-int : (m : Machine) → takesOf m ≡ true → m .lines .int < 8
+-- an interrupt is taken where INT is up
+taken-up : (m : Machine) → takesOf m ≡ true → m .lines .int < 8
 unfolding takesOf
-taken-int m e =
-    let t = true→T (takesOf m) e in
-    ltb→lt (m .lines .int) 8
-    (and-left (ltb (m .lines .int) 8) (m .regs .inte)
-    (and-left (ltb (m .lines .int) 8 && m .regs .inte) (not (eqb (m .kept .opcode) 0xFB)) t))
+taken-up m e = let t = true→T (takesOf m) e in search (ltb→lt, and-left)
 
 -- the instruction is over
 pub ended-well : (m : Machine) → T (fixedOf (m .regs .f)) → T (listedOf (m .lines)) → Well (endedOf m)
@@ -83,7 +80,7 @@ unfolding endedOf thereOf
 ended-well m f l =
     pick-both Well (takesOf m) (acknowledgeOf (pick (isHlt m) Halted Running) m) (clearOf (pick (isHlt m) Halt Fetch) m)
     (λ (e : takesOf m ≡ true).
-    let i : m .lines .int < 8 = taken-int m e in
+    let i : m .lines .int < 8 = taken-up m e in
     acknowledge-well m (pick (isHlt m) Halted Running)
     (pick-both (λ (a : Acknowledge). isNone a ≡ false) (isHlt m) Halted Running (λ z. refl) (λ z. refl)) f l i)
     (λ e.
@@ -98,7 +95,7 @@ follow-well c n m l r s =
     (λ (e : eqb n 0 ≡ false).
     let q = s e in
     let three = states-three (m .kept .opcode) (r .defined) (metOf (m .kept .opcode) (m .regs .f)) n (q .1) in
-    next-well m (Later n 1) (subst (ReadyAt m) (let z : c ≡ n - 1 = omega arith in z) r)
+    next-well m (Later n 1) (subst (ReadyAt m) (omega arith) r)
     (start-there (m .kept .opcode) (cyclesIn m) n (omega arith) (q .1) (omega arith)) tt)
 
 -- all changes of the cycle are made
