@@ -28,7 +28,8 @@ use Rattle.machine.specs.Step.{secondOf, thirdOf, onwardOf, laterOf, hal
 use Rattle.machine.specs.Show.{placeOf, shownOf, lookAt, lookOf, restartOf, askedOf, requestOf}
 use Rattle.machine.specs.Well.{oneOf, thereOf, doneOf, idleOf, wellOf}
 use Rattle.machine.proofs.Parts.{Well, ReadyAt, cyclesIn, There, Parts, parts-of, next-well}
-use Rattle.machine.proofs.Bytes.{Names, bytes-each, ready-first}
+use Rattle.machine.proofs.Bytes.{bytes-each}
+use Rattle.machine.proofs.Ready.{Names, ready-first}
 use Rattle.machine.proofs.Exists.{one-each, later-each, second-there, after-follows}
 use Rattle.machine.proofs.Ends.{hold-well, end-well}
 use Rattle.machine.proofs.States.{three-in, wait-well, second-well, onward-well, third-well}

@@ -6,6 +6,7 @@ use mathlib.Core.Bool.{Bool, true, false, _&&_}
 use native.Mathlib.Omega.{arith}
 use borrow.Author.Tests.{eqb-true, eqb-false, lt-leb}
 use lib.Dec.{T, eqb}
+use Rattle.laws.proofs.Every.{and-left}
 use Rattle.laws.proofs.Tests.{true→T, and-both, pick-both}
 use Rattle.opcodes.specs.Condition.{metOf}
 use Rattle.opcodes.specs.Cycles.{codeOf, definedOf}
@@ -22,7 +23,7 @@ use Rattle.machine.specs.Ending.{clearOf, endOf}
 use Rattle.machine.specs.Step.{risenOf, waitOf, secondOf, fetchedOf, onwardOf, tookOf, thirdOf}
 use Rattle.machine.specs.Well.{oneOf, thereOf, doneOf, idleOf}
 use Rattle.machine.proofs.Parts.{Well, ReadyAt, cyclesIn, next-well}
-use Rattle.machine.proofs.Bytes.{Names, ready-more, ready-took, ready-first}
+use Rattle.machine.proofs.Ready.{Names, ready-more, ready-took, ready-first}
 use Rattle.machine.proofs.Exists.{one-all, second-there, after-follows}
 use Rattle.machine.proofs.Ends.{clear-well, end-well}
 
@@ -33,21 +34,17 @@ three-in m c d r l = states-three (m .kept .opcode) (r .defined) (metOf (m .kept
 
 -- after T2 or a wait, where c - 1 cycles have read; READY counts only where the cycle waits
 pub wait-well : (b : Bool) (c : ℕ) (m : Machine) → 1 ≤ c → c ≤ cyclesIn m → ReadyAt m (c - 1)
-    → (b ≡ true → T (waitsOf (codeOf (m .kept .opcode) c))) → Well (waitOf b c m)
+    → (T b → T (waitsOf (codeOf (m .kept .opcode) c))) → Well (waitOf b c m)
 unfolding waitOf thereOf doneOf idleOf
 wait-well b c m l o r w =
     pick-both (λ (p : Position). Well (withNext p m)) (b && eqb (m .lines .ready) 0) (Wait c) (Later c 3)
-    (λ e.
+    (λ (e : (b && eqb (m .lines .ready) 0) ≡ true).
+    let t = and-left b (eqb (m .lines .ready) 0) (true→T (b && eqb (m .lines .ready) 0) e) in
     next-well m (Wait c) r
-    (and-both (oneOf (cyclesIn m) c) (waitsOf (codeOf (m .kept .opcode) c)) (one-all (cyclesIn m) c l o)
-    (w (and-true b (eqb (m .lines .ready) 0) e))) tt)
+    (and-both (oneOf (cyclesIn m) c) (waitsOf (codeOf (m .kept .opcode) c)) (one-all (cyclesIn m) c l o) (w t)) tt)
     (λ e.
     next-well m (Later c 3) r
     (second-there (m .kept .opcode) (cyclesIn m) c 3 l o (omega arith) (three-in m c (c - 1) r o)) tt)
-  where
-    and-true : (x y : Bool) → (x && y) ≡ true → x ≡ true
-    and-true true y e = refl
-    and-true false y e = e
 
 -- T2
 pub second-well : (c : ℕ) (m : Machine) → 1 ≤ c → c ≤ cyclesIn m → ReadyAt m (c - 1)
@@ -56,7 +53,7 @@ unfolding secondOf withRegs risenOf
 second-well c m l o r =
     wait-well (waitsOf (codeOf (m .kept .opcode) c)) c
     (withRegs (risenOf (codeOf (m .kept .opcode) c) (m .kept) (m .regs)) m) l o r
-    (true→T (waitsOf (codeOf (m .kept .opcode) c)))
+    (λ t. t)
 
 -- after state s, from T3 on, whose changes are made
 pub onward-well : (c s : ℕ) (m : Machine) → 1 ≤ c → c ≤ cyclesIn m → ReadyAt m c
@@ -104,7 +101,7 @@ third-well v c m l o r a =
     pick-both Well (eqb c 1) (fetchedOf (definedOf v) v m) (onwardOf y c 3 (tookOf (y .code) c v m))
     (λ (e : eqb c 1 ≡ true).
     let q = eqb-true c 1 e in
-    fetched-well v m (subst (ReadyAt m) (let z : c - 1 ≡ 0 = omega arith in z) r) (a q))
+    fetched-well v m (subst (ReadyAt m) (omega arith) r) (a q))
     (λ (e : eqb c 1 ≡ false).
     let ne = eqb-false c 1 e in
     pick-both (λ (k : Kept). Well (onwardOf y c 3 (withKept k m))) (readsOf (y .code)) (keepOf c v (m .kept)) (m .kept)
