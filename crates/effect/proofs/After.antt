@@ -28,6 +28,7 @@ pub data After (i : Instruction) (f g : ℕ) : Type 0 where
   kept : g ≡ f → After i f g
   changed : (x : Flags) → g ≡ flagByteOf x → ((u w : Bool) → cycles i u ≡ cycles i w) → After i f g
 
+-- POP PSW makes a new one, and POP of another pair does not
 popped : {p : ℕ} (b : Bool) (v f : ℕ) → After (pop p) f (pick b f (flagByteOf (flagsOf v)))
 unfolding cycles
 popped true v f = kept refl

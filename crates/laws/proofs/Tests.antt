@@ -6,6 +6,7 @@ use mathlib.Core.Logic.{_⊎_, inl, inr}
 use lib.Dec.{T}
 use Rattle.laws.specs.Choice.{pick}
 
+-- a test that passes is true
 pub true→T : (a : Bool) → a ≡ true → T a
 true→T a e = rw e tt
 
@@ -13,6 +14,7 @@ pub T→true : (a : Bool) → T a → a ≡ true
 T→true true t = refl
 T→true false t = absurd t
 
+-- two tests in one, where both pass or one does
 pub and-both : (a b : Bool) → T a → T b → T (a && b)
 and-both true b s t = t
 and-both false b s t = s

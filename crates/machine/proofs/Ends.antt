@@ -35,7 +35,7 @@ use Rattle.machine.specs.Well.{fixedOf, listedOf, thereOf, doneOf, idleO
 use Rattle.machine.proofs.Parts.{Well, ReadyAt, cyclesIn, well-of, next-well}
 use Rattle.machine.proofs.Exists.{Follows, one-all, start-there}
 
--- nothing is kept, and p is next
+-- nothing is kept, and p is next, which exists for opcode 0
 pub clear-well : (m : Machine) (p : Position) → T (fixedOf (m .regs .f)) → T (listedOf (m .lines))
     → T (thereOf 0 (cyclesOf 0 (m .regs .f)) p) → Well (clearOf p m)
 unfolding clearOf keptFor bytesOf readOf cycling
@@ -48,7 +48,7 @@ lowered : (l : Lines) → T (listedOf l) → T (leb (l .ready) 1 && leb (l .hold
 unfolding listedOf
 lowered l t = search (and-both, and-left)
 
--- the acknowledge of restart n is next
+-- an acknowledge is next, of the number that INT had
 acknowledge-well : (m : Machine) (a : Acknowledge) → isNone a ≡ false → T (fixedOf (m .regs .f)) → T (listedOf (m .lines))
     → m .lines .int < 8 → Well (acknowledgeOf a m)
 unfolding acknowledgeOf keptFor listedOf thereOf idleOf doneOf bytesOf readOf cycling
@@ -61,8 +61,7 @@ acknowledge-well m a e f l i =
             listed = lowered (m .lines) l;
             defined = tt;
             named =
-                rw e
-                (and-both (leb (m .lines .int) 7) true (le→leb (m .lines .int) 7 (omega arith)) tt);
+                rw e (and-both (leb (m .lines .int) 7) true (le→leb (m .lines .int) 7 (omega arith)) tt);
             bytes = tt;
           };
       there = tt;
@@ -75,7 +74,7 @@ unfolding takesOf
 taken-up m e = let t = true→T (takesOf m) e in search (ltb→lt, and-left)
 
 -- the instruction is over
-pub ended-well : (m : Machine) → T (fixedOf (m .regs .f)) → T (listedOf (m .lines)) → Well (endedOf m)
+ended-well : (m : Machine) → T (fixedOf (m .regs .f)) → T (listedOf (m .lines)) → Well (endedOf m)
 unfolding endedOf thereOf
 ended-well m f l =
     pick-both Well (takesOf m) (acknowledgeOf (pick (isHlt m) Halted Running) m) (clearOf (pick (isHlt m) Halt Fetch) m)
@@ -88,7 +87,7 @@ ended-well m f l =
     (pick-both (λ (p : Position). T (thereOf 0 (cyclesOf 0 (m .regs .f)) p)) (isHlt m) Halt Fetch (λ z. tt) (λ z. tt)))
 
 -- the cycle c and its holds are over; n is the cycle after it
-pub follow-well : (c n : ℕ) (m : Machine) → 1 ≤ c → ReadyAt m c → Follows (cyclesIn m) c n → Well (followOf n m)
+follow-well : (c n : ℕ) (m : Machine) → 1 ≤ c → ReadyAt m c → Follows (cyclesIn m) c n → Well (followOf n m)
 unfolding followOf doneOf idleOf cyclesOf
 follow-well c n m l r s =
     pick-both Well (eqb n 0) (endedOf m) (withNext (Later n 1) m) (λ e. ended-well m (r .fixed) (r .listed))
@@ -107,16 +106,18 @@ hold-well c n m l o r s =
     (λ e. next-well m (Hold c) r (one-all (cyclesIn m) c l o) tt)
     (λ e. follow-well c n m l r s)
 
+-- the byte of any flags has the right fixed bits
 byte-fixed : (x : Flags) → T (fixedOf (flagByteOf x))
 unfolding fixedOf
 byte-fixed x = rw (flags-fixed x .0, flags-fixed x .1, flags-fixed x .2) tt
 
--- the flag byte g after the last state is right, and the instruction has as many cycles under it as under f
+-- the flag byte g that an instruction leaves is right, and the instruction has as many cycles under it as under f
 after-flags : (i : Instruction) (f g : ℕ) (met : ℕ → Bool) → T (fixedOf f) → After i f g
     → T (fixedOf g) × (length (cycles i (met g)) ≡ length (cycles i (met f)))
 after-flags i f g met h (kept e) = (rw e h, ap (λ (x : ℕ). length (cycles i (met x))) e)
 after-flags i f g met h (changed x e s) = (rw e (byte-fixed x), ap length (s (met g) (met f)))
 
+-- the same of the opcode kept and its effect
 effect-flags : (k : Kept) (r : Registers) → T (fixedOf (r .f))
     → T (fixedOf (effectOf k r .f)) × (cyclesOf (k .opcode) (effectOf k r .f) ≡ cyclesOf (k .opcode) (r .f))
 unfolding effectOf cyclesOf countOf

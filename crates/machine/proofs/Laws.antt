@@ -17,6 +17,7 @@ pub cold-well : T (wellOf coldOf)
 unfolding coldOf keptFor wellOf fixedOf listedOf thereOf doneOf ackedOf bytesOf readOf idleOf cycling
 cold-well = tt
 
+-- the clock counts at every position but a stop
 ticked-rises : (p : Position) (t : ℕ) → (p ≡ Stop → ⊥) → tickedOf p t ≡ (t + 1) % 4294967296
 unfolding tickedOf
 ticked-rises Fetch t h = refl

@@ -71,7 +71,7 @@ onward-well c s m l o r h g =
     (second-there (m .kept .opcode) (cyclesIn m) c (s + 1) l o (omega arith) (omega arith)) tt)
 
 -- T3 of a fetch
-pub fetched-well : (v : ℕ) (m : Machine) → ReadyAt m 0 → Names v (m .kept) → Well (fetchedOf (definedOf v) v m)
+fetched-well : (v : ℕ) (m : Machine) → ReadyAt m 0 → Names v (m .kept) → Well (fetchedOf (definedOf v) v m)
 unfolding fetchedOf withKept keepOf cyclesOf thereOf doneOf idleOf
 fetched-well v m r a =
     pick-both Well (definedOf v) (withNext (Later 1 4) (withKept (keepOf 1 v (m .kept)) m)) (clearOf Stop m)

@@ -15,14 +15,17 @@ use Rattle.opcodes.specs.Instructions.{Instruction, undefined, nth, deco
 use Rattle.opcodes.specs.Cycles.{cycles, codeOf, countOf, definedOf, cycling}
 use Rattle.opcodes.specs.Kinds.{statesOf}
 
+-- past the end of a list of four there is no instruction
 past-four : (a b c d : Instruction) (q : ℕ) → 4 ≤ q → nth (a ∷ b ∷ c ∷ d ∷ []) q ≡ undefined
 unfolding nth
 past-four a b c d q h = List·getD-eq-default (a ∷ b ∷ c ∷ d ∷ []) undefined h
 
+-- an opcode that decodes to none is not defined
 undefined-no : (op : ℕ) → decode op ≡ undefined → T (definedOf op) → ⊥
 unfolding definedOf countOf cycles
 undefined-no op e t = rw e at t
 
+-- a number past the bytes decodes to none
 past-none : (op : ℕ) → 256 ≤ op → decode op ≡ undefined
 unfolding decode
 past-none op h =
@@ -34,6 +37,7 @@ pub defined-byte : (op : ℕ) → T (definedOf op) → op < 256
 defined-byte op t =
     ⊎-elim (λ (l : op < 256). l) (λ (l : 256 ≤ op). absurd (undefined-no op (past-none op l) t)) (lt-or-le op 256)
 
+-- every cycle has three states or more; past the last cycle the code 0 counts as three
 three-right : ℕ → ℕ → Bool
 three-right op c = leb 3 (statesOf (codeOf op c))
 
@@ -44,6 +48,7 @@ all-threes : T (every threes-right 256)
 unfolding threes-right three-right cycling statesOf
 all-threes = tt
 
+-- an opcode that is defined has one to five cycles
 some-right : ℕ → Bool → Bool
 some-right op met = not (definedOf op) || (leb 1 (countOf op met) && leb (countOf op met) 5)
 
@@ -54,6 +59,7 @@ all-somes : T (every somes-right 256)
 unfolding somes-right some-right cycling
 all-somes = tt
 
+-- and its first cycle has four states or more
 four-right : ℕ → Bool
 four-right op = not (definedOf op) || leb 4 (statesOf (codeOf op 1))
 
