@@ -132,11 +132,11 @@ unfolding endOf withRegs
 end-well c n m l o r s =
     let new = pick (eqb n 0) (effectOf (m .kept) (m .regs)) (m .regs) in
     let q : T (fixedOf (new .f)) × (cyclesOf (m .kept .opcode) (new .f) ≡ cyclesIn m) =
-        pick-both
-        (λ (x : Registers). T (fixedOf (x .f)) × (cyclesOf (m .kept .opcode) (x .f) ≡ cyclesIn m))
-        (eqb n 0) (effectOf (m .kept) (m .regs)) (m .regs)
-        (λ e. effect-flags (m .kept) (m .regs) (r .fixed))
-        (λ e. (r .fixed, refl)) in
+    pick-both
+    (λ (x : Registers). T (fixedOf (x .f)) × (cyclesOf (m .kept .opcode) (x .f) ≡ cyclesIn m))
+    (eqb n 0) (effectOf (m .kept) (m .regs)) (m .regs)
+    (λ e. effect-flags (m .kept) (m .regs) (r .fixed))
+    (λ e. (r .fixed, refl)) in
     hold-well c n (withRegs new m) l (rw (q .1) o)
     record { fixed = q .0; listed = r .listed; defined = r .defined; named = r .named; bytes = r .bytes }
     (rw (q .1) s)

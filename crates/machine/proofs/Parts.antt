@@ -70,4 +70,3 @@ unfolding withNext
 next-well m p r t i =
     well-of (withNext p m)
     record { ready = r; there = t; awake = or-right (isNone (m .kept .ack)) (not (idleOf p)) i }
-

@@ -33,12 +33,13 @@ ready-more f l k c h r =
       defined = r .defined;
       named = named-more k (c - 1) c (omega arith) (omega arith) (r .named);
       bytes =
-          bytes-all k c
-          (or-right (eqb (k .opcode) 0) (leb 1 c) (le→leb 1 c (omega arith)),
-          read-more (k .opcode) (c - 1) c 2 (k .b1) (omega arith) (b .1),
-          read-more (k .opcode) (c - 1) c 3 (k .b2) (omega arith) (b .2),
-          read-more (k .opcode) (c - 1) c 4 (k .b3) (omega arith) (b .3),
-          read-more (k .opcode) (c - 1) c 5 (k .b4) (omega arith) (b .4));
+          bytes-all k c (
+            or-right (eqb (k .opcode) 0) (leb 1 c) (le→leb 1 c (omega arith)),
+            read-more (k .opcode) (c - 1) c 2 (k .b1) (omega arith) (b .1),
+            read-more (k .opcode) (c - 1) c 3 (k .b2) (omega arith) (b .2),
+            read-more (k .opcode) (c - 1) c 4 (k .b3) (omega arith) (b .3),
+            read-more (k .opcode) (c - 1) c 5 (k .b4) (omega arith) (b .4),
+          );
     }
 
 -- cycle c, which is not the first, reads v
@@ -56,12 +57,13 @@ module _ (f : ℕ) (l : Lines) (k : Kept) (c v : ℕ) (h : 2 ≤ c) where
         defined = rw later (r .defined);
         named = rw later (named-more k (c - 1) c (omega arith) (omega arith) (r .named));
         bytes =
-            bytes-all (keepOf c v k) c
-            (or-right (eqb (keepOf c v k .opcode) 0) (leb 1 c) (le→leb 1 c (omega arith)),
-            rw later (read-took (k .opcode) (c - 1) c v 2 (k .b1) (omega arith) o (b .1)),
-            rw later (read-took (k .opcode) (c - 1) c v 3 (k .b2) (omega arith) o (b .2)),
-            rw later (read-took (k .opcode) (c - 1) c v 4 (k .b3) (omega arith) o (b .3)),
-            rw later (read-took (k .opcode) (c - 1) c v 5 (k .b4) (omega arith) o (b .4)));
+            bytes-all (keepOf c v k) c (
+              or-right (eqb (keepOf c v k .opcode) 0) (leb 1 c) (le→leb 1 c (omega arith)),
+              rw later (read-took (k .opcode) (c - 1) c v 2 (k .b1) (omega arith) o (b .1)),
+              rw later (read-took (k .opcode) (c - 1) c v 3 (k .b2) (omega arith) o (b .2)),
+              rw later (read-took (k .opcode) (c - 1) c v 4 (k .b3) (omega arith) o (b .3)),
+              rw later (read-took (k .opcode) (c - 1) c v 5 (k .b4) (omega arith) o (b .4)),
+            );
       }
 
 -- of an acknowledge named, the opcode v is the RST of the number taken
@@ -88,10 +90,11 @@ ready-first f l k v e h d a r =
       defined = d;
       named = named-first k v e a (r .named);
       bytes =
-          bytes-all (keepOf 1 v k) e
-          (or-right (eqb v 0) (leb 1 e) (le→leb 1 e h),
-          zero-read (k .opcode) v 2 e (k .b1) (omega arith) (b .1),
-          zero-read (k .opcode) v 3 e (k .b2) (omega arith) (b .2),
-          zero-read (k .opcode) v 4 e (k .b3) (omega arith) (b .3),
-          zero-read (k .opcode) v 5 e (k .b4) (omega arith) (b .4));
+          bytes-all (keepOf 1 v k) e (
+            or-right (eqb v 0) (leb 1 e) (le→leb 1 e h),
+            zero-read (k .opcode) v 2 e (k .b1) (omega arith) (b .1),
+            zero-read (k .opcode) v 3 e (k .b2) (omega arith) (b .2),
+            zero-read (k .opcode) v 4 e (k .b3) (omega arith) (b .3),
+            zero-read (k .opcode) v 5 e (k .b4) (omega arith) (b .4),
+          );
     }
