@@ -52,6 +52,17 @@ module _ (f : Flags) where
       let cy = bit-small (f .cy) in
       (omega arith, omega arith, omega arith, omega arith, omega arith)
 
+  -- the fixed bits of a flag byte: 0 at 5 and 3, 1 at 1
+  pub flags-fixed : (flagByteOf f / 32 % 2 ≡ 0) × (flagByteOf f / 8 % 2 ≡ 0) × (flagByteOf f / 2 % 2 ≡ 1)
+  unfolding flagByteOf
+  flags-fixed =
+      let s = bit-small (f .s) in
+      let z = bit-small (f .z) in
+      let ac = bit-small (f .ac) in
+      let p = bit-small (f .p) in
+      let cy = bit-small (f .cy) in
+      (omega arith, omega arith, omega arith)
+
   pub flags-kept : flagsOf (flagByteOf f) ≡ f
   unfolding byte flagsOf
   flags-kept =

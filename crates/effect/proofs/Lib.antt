@@ -1,2 +1,3 @@
 -- The modules of this folder.
 pub mod Idle
+pub mod After
