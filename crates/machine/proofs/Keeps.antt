@@ -13,10 +13,11 @@ use Rattle.opcodes.specs.declared.cycle.Acknowledge.{Acknowledge}
 use Rattle.opcodes.specs.declared.cycle.Acknowledge.the-variants.{None, Running, Halted}
 use Rattle.machine.specs.declared.record.Position.the-variants.{Later}
 use Rattle.machine.specs.declared.record.Machine.{Machine}
-use Rattle.machine.specs.declared.show.Request.the-variants.{Restart}
+use Rattle.machine.specs.declared.request.Request.the-variants.{Restart}
 use Rattle.machine.specs.Record.{withClock}
 use Rattle.machine.specs.Step.{stepOf}
-use Rattle.machine.specs.Show.{placeOf, shownOf, lookAt, lookOf, restartOf, askedOf, requestOf}
+use Rattle.machine.specs.Look.{placeOf, shownOf, lookAt, lookOf}
+use Rattle.machine.specs.Request.{restartOf, askedOf, requestOf}
 use Rattle.machine.specs.Well.{doneOf, wellOf}
 use Rattle.machine.proofs.Parts.{Parts, parts-of}
 use Rattle.machine.proofs.Bytes.{bytes-each}

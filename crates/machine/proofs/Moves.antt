@@ -22,7 +22,7 @@ use Rattle.machine.specs.Record.{withNext, withKept}
 use Rattle.machine.specs.Cycle.{cyclesOf, cycleOf}
 use Rattle.machine.specs.Ending.{endOf}
 use Rattle.machine.specs.Step.{secondOf, thirdOf, onwardOf, laterOf, haltedOf, movedOf}
-use Rattle.machine.specs.Show.{restartOf}
+use Rattle.machine.specs.Request.{restartOf}
 use Rattle.machine.specs.Well.{oneOf, thereOf, doneOf, idleOf}
 use Rattle.machine.proofs.Parts.{Well, ReadyAt, cyclesIn, There, Parts, next-well}
 use Rattle.machine.proofs.Ready.{Names, ready-first}

@@ -13,7 +13,7 @@ use Rattle.machine.specs.declared.record.Position.{Position}
 use Rattle.machine.specs.declared.record.Machine.{Machine}
 use Rattle.machine.specs.Record.{withNext}
 use Rattle.machine.specs.Cycle.{cyclesOf}
-use Rattle.machine.specs.Show.{restartOf}
+use Rattle.machine.specs.Request.{restartOf}
 use Rattle.machine.specs.Well.{fixedOf, listedOf, thereOf, doneOf, idleOf, ackedOf, bytesOf, wellOf}
 
 -- the acknowledge named and the number taken are right where d cycles have read

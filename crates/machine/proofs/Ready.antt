@@ -14,7 +14,7 @@ use Rattle.opcodes.specs.Kinds.{readsOf, isNone}
 use Rattle.effect.specs.declared.kept.Kept.{Kept}
 use Rattle.effect.specs.Kept.{keepOf}
 use Rattle.machine.specs.declared.record.Lines.{Lines}
-use Rattle.machine.specs.Show.{restartOf}
+use Rattle.machine.specs.Request.{restartOf}
 use Rattle.machine.proofs.Parts.{nameOf, Ready}
 use Rattle.machine.proofs.Bytes.{read-more, read-took, zero-read, bytes-each, bytes-all}
 

@@ -14,12 +14,14 @@ use Rattle.effect.specs.Kept.{keptFor, keepOf, wzOf}
 use Rattle.effect.specs.Bus.{addressOf, givenOf}
 use Rattle.effect.specs.Effect.{finish, effectOf}
 use Rattle.machine.specs.declared.record.Machine.{Machine}
-use Rattle.machine.specs.declared.show.Look.{Look}
-use Rattle.machine.specs.declared.show.Request.{Request}
-use Rattle.machine.specs.declared.show.Request.the-variants.{Nothing, Read, Write, Input, Output, Restart}
+use Rattle.machine.specs.declared.look.Look.{Look}
+use Rattle.machine.specs.declared.request.Request.{Request}
+use Rattle.machine.specs.declared.request.Request.the-variants.{Nothing, Read, Write, Input, Output, Restart}
 use Rattle.machine.specs.Record.{coldOf}
 use Rattle.machine.specs.Step.{stepOf, stepping}
-use Rattle.machine.specs.Show.{lookOf, requestOf, showing}
+use Rattle.machine.specs.Look.{lookOf}
+use Rattle.machine.specs.Request.{requestOf}
+use Rattle.machine.specs.Row.{showing}
 
 -- the byte on the bus, over a memory that is 0 past the list's end and input ports that are 0
 byteOn : Request → List ℕ → ℕ

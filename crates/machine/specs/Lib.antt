@@ -3,5 +3,7 @@ pub mod Record
 pub mod Cycle
 pub mod Ending
 pub mod Step
-pub mod Show
+pub mod Look
+pub mod Request
+pub mod Row
 pub mod Well

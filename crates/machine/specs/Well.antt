@@ -12,7 +12,7 @@ use Rattle.machine.specs.declared.record.Position.{Position}
 use Rattle.machine.specs.declared.record.Position.the-variants.{Fetch, Later, Wait, Hold, Halt, Stop}
 use Rattle.machine.specs.declared.record.Machine.{Machine}
 use Rattle.machine.specs.Cycle.{cyclesOf}
-use Rattle.machine.specs.Show.{restartOf}
+use Rattle.machine.specs.Request.{restartOf}
 
 -- "a flag byte has a wrong fixed bit": bits 5 and 3 are 0, bit 1 is 1
 unfoldable pub fixedOf : ℕ → Bool

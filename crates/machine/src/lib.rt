@@ -2,7 +2,9 @@
 // are well formed.
 pub mod cycle;
 mod ending;
+pub mod look;
 pub mod record;
-pub mod show;
+pub mod request;
+pub mod row;
 pub mod step;
 pub mod well;

@@ -10,7 +10,7 @@ use crate::cycle::is_defined;
 use crate::record::Lines;
 use crate::record::Machine;
 use crate::record::Position;
-use crate::show::restart;
+use crate::request::restart;
 use effect::kept::Kept;
 use opcodes::cycle::is_none;
 use opcodes::cycle::reads;

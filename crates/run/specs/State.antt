@@ -6,11 +6,13 @@ use mathlib.Core.List.{List}
 use lib.ListN.{length, getD, set}
 use Rattle.opcodes.specs.Entries.{entries}
 use Rattle.machine.specs.declared.record.Machine.{Machine}
-use Rattle.machine.specs.declared.show.Row.{Row}
-use Rattle.machine.specs.declared.show.Request.{Request}
-use Rattle.machine.specs.declared.show.Request.the-variants.{Nothing, Read, Write, Input, Output, Restart}
+use Rattle.machine.specs.declared.row.Row.{Row}
+use Rattle.machine.specs.declared.request.Request.{Request}
+use Rattle.machine.specs.declared.request.Request.the-variants.{Nothing, Read, Write, Input, Output, Restart}
 use Rattle.machine.specs.Step.{stepOf}
-use Rattle.machine.specs.Show.{lookOf, requestOf, rowOf}
+use Rattle.machine.specs.Look.{lookOf}
+use Rattle.machine.specs.Request.{requestOf}
+use Rattle.machine.specs.Row.{rowOf}
 
 -- the byte on the bus: "IN reads the input port"; what goes out is on the bus too
 unfoldable pub byteOn : Request → List ℕ → List ℕ → ℕ

@@ -2,7 +2,7 @@
 ghost use mathlib.Core.Path.{_≡_};
 ghost use lib.ListN.{length};
 ghost use Rattle.run.specs.State.{byteOn, memoryAfter, outputsAfter};
-use machine::show::Request;
+use machine::request::Request;
 
 // The byte on the bus: read, written, or 0 where there is none.
 pub fn byte_on(q: Request, memory: &[u8], inputs: &[u8]) -> u8

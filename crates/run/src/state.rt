@@ -8,7 +8,7 @@ use crate::bus::byte_on;
 use crate::bus::write_memory;
 use crate::bus::write_output;
 use machine::record::Machine;
-use machine::show::Row;
+use machine::row::Row;
 
 // The eight bytes of a row, from a place of the trace on.
 fn put_row(trace: &mut [u8], at: usize, r: Row)

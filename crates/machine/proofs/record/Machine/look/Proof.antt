@@ -1,6 +1,6 @@
 -- `machine::record::Machine::look` meets its contract.
 -- Assumes nothing.
-use Rattle.machine.specs.Show.{lookOf}
+use Rattle.machine.specs.Look.{lookOf}
 use borrow.Author.Needs.{needs}
 use Rattle.machine.proofs.record.Machine.look.Statement.{statement}
 use Rattle.machine.proofs.record.Machine.look.Tie as tie

@@ -1,6 +1,6 @@
 -- `machine::record::Machine::look_at` meets its contract.
 -- Assumes nothing.
-use Rattle.machine.specs.Show.{lookAt}
+use Rattle.machine.specs.Look.{lookAt}
 use borrow.Author.Needs.{needs}
 use Rattle.machine.proofs.record.Machine.look_at.Statement.{statement}
 use Rattle.machine.proofs.record.Machine.look_at.Tie as tie

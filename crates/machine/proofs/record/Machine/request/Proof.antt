@@ -1,6 +1,6 @@
 -- `machine::record::Machine::request` meets its contract.
 -- Assumes nothing.
-use Rattle.machine.specs.Show.{requestOf}
+use Rattle.machine.specs.Request.{requestOf}
 use borrow.Author.Tests.{eq-eqb, ne-eqb}
 use borrow.Author.Needs.{needs}
 use Rattle.machine.proofs.record.Machine.request.Statement.{statement}

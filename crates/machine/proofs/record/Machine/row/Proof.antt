@@ -1,6 +1,6 @@
 -- `machine::record::Machine::row` meets its contract.
 -- Assumes nothing.
-use Rattle.machine.specs.Show.{rowOf}
+use Rattle.machine.specs.Row.{rowOf}
 use borrow.Author.Needs.{needs}
 use Rattle.machine.proofs.record.Machine.row.Statement.{statement}
 use Rattle.machine.proofs.record.Machine.row.Tie as tie

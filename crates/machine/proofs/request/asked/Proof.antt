@@ -1,13 +1,13 @@
--- `machine::show::asked` meets its contract.
+-- `machine::request::asked` meets its contract.
 -- Assumes nothing.
 use mathlib.Core.Path.{sym}
 use lib.ListN.{List·getD-eq-default}
-use Rattle.machine.specs.declared.show.Request.the-variants.{Nothing}
-use Rattle.machine.specs.Show.{asks, askedOf}
+use Rattle.machine.specs.declared.request.Request.the-variants.{Nothing}
+use Rattle.machine.specs.Request.{asks, askedOf}
 use Rattle.laws.proofs.Last.{past}
 use borrow.Author.Needs.{needs}
-use Rattle.machine.proofs.show.asked.Statement.{statement}
-use Rattle.machine.proofs.show.asked.Tie as tie
+use Rattle.machine.proofs.request.asked.Statement.{statement}
+use Rattle.machine.proofs.request.asked.Tie as tie
 
 pub asked-spec : {M : Type 1} → statement M
 unfolding askedOf

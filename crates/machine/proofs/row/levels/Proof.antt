@@ -1,9 +1,9 @@
--- `machine::show::levels` meets its contract.
+-- `machine::row::levels` meets its contract.
 -- Assumes nothing.
-use Rattle.machine.specs.Show.{levelsOf}
+use Rattle.machine.specs.Row.{levelsOf}
 use borrow.Author.Needs.{needs}
-use Rattle.machine.proofs.show.levels.Statement.{statement}
-use Rattle.machine.proofs.show.levels.Tie as tie
+use Rattle.machine.proofs.row.levels.Statement.{statement}
+use Rattle.machine.proofs.row.levels.Tie as tie
 
 pub levels-spec : {M : Type 1} → statement M
 unfolding levelsOf

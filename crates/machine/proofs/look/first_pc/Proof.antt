@@ -1,9 +1,9 @@
--- `machine::show::first_pc` meets its contract.
+-- `machine::look::first_pc` meets its contract.
 -- Assumes nothing.
-use Rattle.machine.specs.Show.{firstPcOf}
+use Rattle.machine.specs.Look.{firstPcOf}
 use borrow.Author.Needs.{needs}
-use Rattle.machine.proofs.show.first_pc.Statement.{statement}
-use Rattle.machine.proofs.show.first_pc.Tie as tie
+use Rattle.machine.proofs.look.first_pc.Statement.{statement}
+use Rattle.machine.proofs.look.first_pc.Tie as tie
 
 pub first-pc-spec : {M : Type 1} → statement M
 unfolding firstPcOf

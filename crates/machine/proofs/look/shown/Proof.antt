@@ -1,10 +1,10 @@
--- `machine::show::shown` meets its contract.
+-- `machine::look::shown` meets its contract.
 -- Assumes nothing.
-use Rattle.machine.specs.Show.{shownOf}
+use Rattle.machine.specs.Look.{shownOf}
 use borrow.Author.Tests.{eq-eqb, ne-eqb}
 use borrow.Author.Needs.{needs}
-use Rattle.machine.proofs.show.shown.Statement.{statement}
-use Rattle.machine.proofs.show.shown.Tie as tie
+use Rattle.machine.proofs.look.shown.Statement.{statement}
+use Rattle.machine.proofs.look.shown.Tie as tie
 
 pub shown-spec : {M : Type 1} → statement M
 unfolding shownOf

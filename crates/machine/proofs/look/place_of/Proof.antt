@@ -1,9 +1,9 @@
--- `machine::show::place_of` meets its contract.
+-- `machine::look::place_of` meets its contract.
 -- Assumes nothing.
-use Rattle.machine.specs.Show.{placeOf}
+use Rattle.machine.specs.Look.{placeOf}
 use borrow.Author.Needs.{needs}
-use Rattle.machine.proofs.show.place_of.Statement.{statement}
-use Rattle.machine.proofs.show.place_of.Tie as tie
+use Rattle.machine.proofs.look.place_of.Statement.{statement}
+use Rattle.machine.proofs.look.place_of.Tie as tie
 
 pub place-of-spec : {M : Type 1} → statement M
 unfolding placeOf
