@@ -22,7 +22,7 @@ coldOf =
       next = Fetch;
     }
 
--- the machine m with another position, other registers, other kept bytes
+-- the machine m with another position, other registers, other kept bytes, other levels, another clock
 unfoldable pub withNext : Position → Machine → Machine
 withNext n m = record { regs = m .regs; kept = m .kept; lines = m .lines; clock = m .clock; next = n }
 
@@ -40,6 +40,9 @@ tickedOf (Wait c) t = (t + 1) % 4294967296
 tickedOf (Hold c) t = (t + 1) % 4294967296
 tickedOf Halt t = (t + 1) % 4294967296
 tickedOf Stop t = t
+
+unfoldable pub withLines : Lines → Machine → Machine
+withLines l m = record { regs = m .regs; kept = m .kept; lines = l; clock = m .clock; next = m .next }
 
 unfoldable pub withClock : ℕ → Machine → Machine
 withClock t m = record { regs = m .regs; kept = m .kept; lines = m .lines; clock = t; next = m .next }

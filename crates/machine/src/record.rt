@@ -1,6 +1,6 @@
 // The machine's record, the cold machine, and the record with a part of it changed.
 ghost use mathlib.Core.Path.{_≡_};
-ghost use Rattle.machine.specs.Record.{coldOf, withNext, withRegs, withKept, withClock, tickedOf};
+ghost use Rattle.machine.specs.Record.{coldOf, withNext, withRegs, withKept, withLines, withClock, tickedOf};
 use effect::kept::Kept;
 use effect::registers::Registers;
 use opcodes::cycle::Acknowledge;
@@ -111,6 +111,14 @@ impl Machine {
             clock: self.clock,
             next: next,
         }
+    }
+
+    pub fn with_lines(self, lines: Lines) -> Machine
+        ensures { λ n. ⌜ n ≡ withLines lines self ⌝ }
+    {
+        let mut n = self;
+        n.lines = lines;
+        n
     }
 
     pub fn with_clock(self, clock: u32) -> Machine
