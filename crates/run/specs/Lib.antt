@@ -2,3 +2,4 @@
 pub mod State
 pub mod Run
 pub mod Check
+pub mod Going

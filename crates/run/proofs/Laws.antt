@@ -1,0 +1,49 @@
+-- Laws of `runOf`: no states, a stop, one state more, and a run in two parts.
+-- Assumes nothing.
+use Prim.Native.Nat.{ℕ, zero, suc, _+_, _-_, _≤_, _<_}
+use mathlib.Core.Path.{_≡_, refl, sym, ap, _∙_}
+use mathlib.Core.Bool.{Bool, true, false}
+use mathlib.Core.List.{List}
+use native.Mathlib.Omega.{arith}
+use native.Mathlib.Nat.{zero-add, suc-add}
+use Rattle.laws.specs.Choice.{pick}
+use Rattle.run.specs.Run.{World, stoppedOf, eventfulOf, stateOf, runOf}
+
+suc-less : (n : ℕ) → suc n - 1 ≡ n
+suc-less n = omega arith
+
+module _ (s inputs : List ℕ) where
+  -- the world after the next state
+  abbrev pub nextOf : World → World
+  nextOf w = stateOf inputs (eventfulOf s (w .machine)) w
+
+  pub run-none : (n : ℕ) (w : World) → n ≤ 0 → runOf s inputs n w ≡ w
+  unfolding runOf
+  run-none zero w h = refl
+  run-none (suc n) w h = absurd (let no : ⊥ = omega arith in no)
+
+  -- a stopped machine does no state
+  pub run-stopped : (n : ℕ) (w : World) → stoppedOf (w .machine .next) ≡ true → runOf s inputs n w ≡ w
+  unfolding runOf
+  run-stopped zero w h = refl
+  run-stopped (suc n) w h = simp h
+
+  -- one state, and the rest
+  pub run-more : (n : ℕ) (w : World) → 0 < n → stoppedOf (w .machine .next) ≡ false
+      → runOf s inputs (n - 1) (nextOf w) ≡ runOf s inputs n w
+  unfolding runOf
+  run-more zero w h f = absurd (let no : ⊥ = omega arith in no)
+  run-more (suc n) w h f = simp (f, suc-less n)
+
+  plus-step : (b : Bool) (n : ℕ) (w x y : World) → (b ≡ true → runOf s inputs n w ≡ w) → x ≡ runOf s inputs n y
+      → pick b w x ≡ runOf s inputs n (pick b w y)
+  plus-step true n w x y f e = sym (f refl)
+  plus-step false n w x y f e = e
+
+  -- a run of m + n states is a run of m states and then of n
+  pub run-plus : (m n : ℕ) (w : World) → runOf s inputs (m + n) w ≡ runOf s inputs n (runOf s inputs m w)
+  unfolding runOf
+  run-plus zero n w = rw zero-add
+  run-plus (suc m) n w =
+      rw suc-add
+      (plus-step (stoppedOf (w .machine .next)) n w _ _ (λ h. run-stopped n w h) (run-plus m n (nextOf w)))
