@@ -1,4 +1,4 @@
--- Laws of `runOf`: no states, a stop, one state more, and a run in two parts.
+-- Laws of `runOf`: no states, a stop, one state more, and a run in two parts; and of a run by its verdict.
 -- Assumes nothing.
 use Prim.Native.Nat.{ℕ, zero, suc, _+_, _-_, _≤_, _<_}
 use mathlib.Core.Path.{_≡_, refl, sym, ap, _∙_}
@@ -7,6 +7,10 @@ use mathlib.Core.List.{List}
 use native.Mathlib.Omega.{arith}
 use native.Mathlib.Nat.{zero-add, suc-add}
 use Rattle.laws.specs.Choice.{pick}
+use Rattle.run.specs.declared.answer.Refusal.{Refusal}
+use Rattle.run.specs.declared.answer.Verdict.the-variants as verdict
+use Rattle.run.specs.declared.answer.Answer.the-variants.{Refused}
+use Rattle.run.specs.Check.{verdictOf, leftBy, leftOf, ranIn, endedOf, answerBy, answerOf}
 use Rattle.run.specs.Run.{World, stoppedOf, eventfulOf, stateOf, runOf}
 
 suc-less : (n : ℕ) → suc n - 1 ≡ n
@@ -47,3 +51,22 @@ module _ (s inputs : List ℕ) where
   run-plus (suc m) n w =
       rw suc-add
       (plus-step (stoppedOf (w .machine .next)) n w _ _ (λ h. run-stopped n w h) (run-plus m n (nextOf w)))
+
+module _ (w : World) (inputs s : List ℕ) (n : ℕ) where
+  -- a run that passes the tests leaves and answers what its states do
+  pub good-left : verdictOf w inputs s n ≡ verdict.Good → leftOf w inputs s n ≡ runOf s inputs n w
+  unfolding leftOf
+  good-left e = rw e
+
+  pub good-answer : verdictOf w inputs s n ≡ verdict.Good → answerOf w inputs s n ≡ endedOf (ranIn (runOf s inputs n w))
+  unfolding answerOf
+  good-answer e = rw e
+
+  -- and one that is refused leaves everything as it was, and no state is done
+  pub refused-left : (r : Refusal) → verdictOf w inputs s n ≡ verdict.Refused r → leftOf w inputs s n ≡ w
+  unfolding leftOf
+  refused-left r e = rw e
+
+  pub refused-answer : (r : Refusal) → verdictOf w inputs s n ≡ verdict.Refused r → answerOf w inputs s n ≡ Refused r (ranIn w)
+  unfolding answerOf
+  refused-answer r e = rw e

@@ -2,6 +2,7 @@
 -- Cited by `run::check` and `run::run`.
 use Prim.Native.Nat.{ℕ, _+_, _*_}
 use mathlib.Core.Bool.{Bool, true, false, _&&_}
+use mathlib.Core.Path.{_≡_}
 use mathlib.Core.List.{List}
 use lib.ListN.{length}
 use lib.Dec.{eqb, leb}
@@ -102,13 +103,21 @@ abbrev pub ranIn : World → Ran
 ranIn w = record { machine = w .machine; states = w .states }
 
 -- done or stopped
-unfoldable pub endOf : World → Answer
-endOf w = pick (stoppedOf (w .machine .next)) (Stopped (ranIn w)) (Done (ranIn w))
+unfoldable pub endedOf : Ran → Answer
+endedOf ran = pick (stoppedOf (ran .machine .next)) (Stopped ran) (Done ran)
 
 -- what a run answers
 abbrev pub answerBy : Verdict → World → World → Answer
-answerBy verdict.Good after before = endOf after
+answerBy verdict.Good after before = endedOf (ranIn after)
 answerBy (verdict.Refused reason) after before = Refused reason (ranIn before)
 
 unfoldable pub answerOf : World → List ℕ → List ℕ → ℕ → Answer
 answerOf w inputs s n = answerBy (verdictOf w inputs s n) (runOf s inputs n w) w
+
+-- the whole of a run of n states of the machine m over memory x, input ports i, output ports o, the schedule s and the trace
+-- l: the answer r, and x', o' and l' afterwards
+pub record Outcome (m : Machine) (x i o s l : List ℕ) (n : ℕ) (r : Answer) (x' o' l' : List ℕ) : Type 0 where
+  pub answer : r ≡ answerOf (startOf m x o l) i s n
+  pub memory : x' ≡ leftOf (startOf m x o l) i s n .memory
+  pub outputs : o' ≡ leftOf (startOf m x o l) i s n .outputs
+  pub trace : l' ≡ leftOf (startOf m x o l) i s n .trace
