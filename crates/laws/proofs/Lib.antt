@@ -4,3 +4,4 @@ pub mod Listed
 pub mod Last
 pub mod Order
 pub mod Tests
+pub mod Unique

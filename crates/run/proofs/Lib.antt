@@ -2,3 +2,4 @@
 pub mod Laws
 pub mod Turn
 pub mod Passed
+pub mod Calls
