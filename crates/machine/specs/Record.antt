@@ -32,6 +32,12 @@ withRegs r m = record { regs = r; kept = m .kept; lines = m .lines; clock = m .c
 unfoldable pub withKept : Kept → Machine → Machine
 withKept k m = record { regs = m .regs; kept = k; lines = m .lines; clock = m .clock; next = m .next }
 
+unfoldable pub withLines : Lines → Machine → Machine
+withLines l m = record { regs = m .regs; kept = m .kept; lines = l; clock = m .clock; next = m .next }
+
+unfoldable pub withClock : ℕ → Machine → Machine
+withClock t m = record { regs = m .regs; kept = m .kept; lines = m .lines; clock = t; next = m .next }
+
 -- the clock after one more state: it counts modulo 4,294,967,296, and a stopped machine does no state
 unfoldable pub tickedOf : Position → ℕ → ℕ
 tickedOf Fetch t = (t + 1) % 4294967296
@@ -40,9 +46,3 @@ tickedOf (Wait c) t = (t + 1) % 4294967296
 tickedOf (Hold c) t = (t + 1) % 4294967296
 tickedOf Halt t = (t + 1) % 4294967296
 tickedOf Stop t = t
-
-unfoldable pub withLines : Lines → Machine → Machine
-withLines l m = record { regs = m .regs; kept = m .kept; lines = l; clock = m .clock; next = m .next }
-
-unfoldable pub withClock : ℕ → Machine → Machine
-withClock t m = record { regs = m .regs; kept = m .kept; lines = m .lines; clock = t; next = m .next }

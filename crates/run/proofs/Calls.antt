@@ -12,7 +12,7 @@ use Rattle.run.specs.declared.answer.Verdict.the-variants as verdict
 use Rattle.run.specs.declared.answer.Answer.{Answer}
 use Rattle.run.specs.State.{asked, heard, memoryAfter, outputsAfter}
 use Rattle.run.specs.Run.{World, stoppedOf, eventfulOf, stateOf, runOf}
-use Rattle.run.specs.Check.{startOf, verdictOf, leftOf, Outcome}
+use Rattle.run.specs.Outcome.{startOf, verdictOf, leftOf, Outcome}
 use Rattle.run.proofs.Laws.{nextOf, run-plus, good-left}
 
 -- two worlds differ in the trace at most, and the first has done d states more

@@ -10,7 +10,7 @@ use Rattle.laws.specs.Choice.{pick}
 use Rattle.run.specs.declared.answer.Refusal.{Refusal}
 use Rattle.run.specs.declared.answer.Verdict.the-variants as verdict
 use Rattle.run.specs.declared.answer.Answer.the-variants.{Refused}
-use Rattle.run.specs.Check.{verdictOf, leftBy, leftOf, ranIn, endedOf, answerBy, answerOf}
+use Rattle.run.specs.Outcome.{verdictOf, leftBy, leftOf, ranIn, endedOf, answerBy, answerOf}
 use Rattle.run.specs.Run.{World, stoppedOf, eventfulOf, stateOf, runOf}
 
 suc-less : (n : ℕ) → suc n - 1 ≡ n

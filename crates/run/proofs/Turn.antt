@@ -15,7 +15,7 @@ use Rattle.schedule.specs.Events.{numberOf}
 use Rattle.schedule.specs.Levels.{levelsAt}
 use Rattle.run.specs.State.{After}
 use Rattle.run.specs.Run.{World, stoppedOf, eventfulOf, stateOf, runOf}
-use Rattle.run.specs.Check.{startOf}
+use Rattle.run.specs.Outcome.{startOf}
 use Rattle.run.proofs.Laws.{run-more}
 
 -- the machine m over memory x, output ports o and trace l, with k states done

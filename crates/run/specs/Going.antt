@@ -7,7 +7,7 @@ use Rattle.machine.specs.declared.record.Machine.{Machine}
 use Rattle.schedule.specs.Events.{numberOf}
 use Rattle.run.specs.declared.answer.Ran.{Ran}
 use Rattle.run.specs.Run.{World, runOf}
-use Rattle.run.specs.Check.{startOf, ranIn}
+use Rattle.run.specs.Outcome.{startOf, ranIn}
 
 -- n states of the machine m, over memory x, input ports i, output ports o, the schedule s and the trace l
 pub record Fit (m : Machine) (x i o s l : List ℕ) (n : ℕ) : Type 0 where

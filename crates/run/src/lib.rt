@@ -1,6 +1,6 @@
 // A run: a number of states over lent memory, ports and trace, driven by a schedule.
 ghost use mathlib.Core.Path.{_≡_};
-ghost use Rattle.run.specs.Check.{endedOf, Outcome};
+ghost use Rattle.run.specs.Outcome.{endedOf, Outcome};
 use crate::answer::Answer;
 use crate::answer::Ran;
 use crate::answer::Verdict;

@@ -1,6 +1,6 @@
 -- `run::ended` meets its contract.
 -- Assumes nothing.
-use Rattle.run.specs.Check.{endedOf}
+use Rattle.run.specs.Outcome.{endedOf}
 use borrow.Author.Needs.{needs}
 use Rattle.run.proofs.ended.Statement.{statement}
 use Rattle.run.proofs.ended.Tie as tie

@@ -3,7 +3,7 @@
 use mathlib.Core.Path.{_≡_, sym, ap, _∙_}
 use borrow.Author.Needs.{needs}
 use Rattle.run.specs.Run.{World}
-use Rattle.run.specs.Check.{verdictOf, endedOf}
+use Rattle.run.specs.Outcome.{verdictOf, endedOf}
 use Rattle.run.proofs.Laws.{good-left, good-answer, refused-left, refused-answer}
 use Rattle.run.proofs.Passed.{check-fit}
 use Rattle.run.proofs.run.Statement.{statement}

@@ -5,7 +5,7 @@ use mathlib.Core.Path.{_≡_, refl, sym, ap, _∙_}
 use native.Mathlib.Omega.{arith}
 use borrow.Author.Needs.{needs}
 use Rattle.run.specs.Run.{World}
-use Rattle.run.specs.Check.{ranIn}
+use Rattle.run.specs.Outcome.{ranIn}
 use Rattle.run.proofs.Laws.{run-none, run-stopped}
 use Rattle.run.proofs.Turn.{Going, turn, made-eventful, turn-clock}
 use Rattle.run.proofs.going.go.Statement.{statement}
