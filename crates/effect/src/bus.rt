@@ -11,10 +11,17 @@ use crate::registers::reg;
 use alu::words::down;
 use alu::words::up;
 
-// The address, by the first digit; pc is what PC was in the cycle's T1.
+// The address, by the first digit; pc is what PC was in the cycle's T1. Most cycles show PC: the other addresses are computed
+// only where they are asked.
 pub fn address(code: u8, pc: u16, k: Kept, r: Registers) -> u16
     ensures { λ v. ⌜ v ≡ addressOf code pc k r ⌝ }
 {
+    if code / 16 == 1 {
+        return pc;
+    }
+    if code / 16 == 2 {
+        return pc;
+    }
     let w = wz(k);
     let all = [
         0,

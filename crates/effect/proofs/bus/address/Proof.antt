@@ -9,9 +9,10 @@ pub address-spec : {M : Type 1} → statement M
 unfolding addressOf
 address-spec =
     tie.close
-    (tie.spec (search needs) (search needs) (search needs) (search needs) (search needs) (search needs) (search needs)
+    (tie.spec (λ c. simp (c .if1 .taken))
+    (λ c. simp (c .if2 .taken)) (search needs) (search needs)
     (search needs) (search needs) (search needs) (search needs) (search needs) (search needs) (search needs)
-    (search needs)
+    (search needs) (search needs) (search needs) (search needs) (search needs) (search needs)
     (λ c.
     simp (
       ← (c .before .down2 .ensures),

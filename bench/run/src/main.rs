@@ -1,0 +1,135 @@
+//! `bench-run SIDE PROGRAM WAY CALLS`: so many runs of 8,192 states, their checksum and their time.
+//! `bench-run same PROGRAM WAY CALLS`: fails unless both sides leave the same after each run.
+//!
+//! SIDE is proved or plain, PROGRAM is mix, dcr or int. WAY is
+//! - on: the machine goes on from run to run, and no event comes;
+//! - cold: each run starts from a cold machine, over the memory that the last one left;
+//! - events: as cold, with 1,000 events in each run.
+
+mod arithmetic;
+mod plain;
+mod programs;
+mod tables;
+
+use std::hint::black_box;
+use std::time::Instant;
+
+const STATES: u32 = 8_192;
+
+#[allow(improper_ctypes, improper_ctypes_definitions)]
+type Rounds = extern "C" fn(u32, u32, &mut [u8], &[u8], &mut [u8], &[u8], &mut [u8]) -> u64;
+
+#[allow(improper_ctypes)]
+unsafe extern "C" {
+    /// The function of `crates/rounds`. It is proved for all arguments, so every call is safe.
+    safe fn rounds(
+        calls: u32,
+        states: u32,
+        memory: &mut [u8],
+        inputs: &[u8],
+        outputs: &mut [u8],
+        s: &[u8],
+        trace: &mut [u8],
+    ) -> u64;
+}
+
+/// What is lent to a run.
+#[derive(PartialEq)]
+struct World {
+    memory: Vec<u8>,
+    inputs: Vec<u8>,
+    outputs: Vec<u8>,
+    schedule: Vec<u8>,
+    trace: Vec<u8>,
+    done: u64,
+}
+
+impl World {
+    fn new(program: &str, way: &str) -> World {
+        World {
+            memory: programs::program(program),
+            inputs: (0..=255).collect(),
+            outputs: vec![0; 256],
+            schedule: if way == "events" { events() } else { vec![] },
+            trace: vec![0; 8 * STATES as usize],
+            done: 0,
+        }
+    }
+
+    /// So many runs from a cold machine on.
+    fn go(&mut self, side: Rounds, calls: u32) {
+        self.done += side(
+            calls,
+            STATES,
+            &mut self.memory,
+            &self.inputs,
+            &mut self.outputs,
+            &self.schedule,
+            &mut self.trace,
+        );
+    }
+
+    fn checksum(&self) -> u64 {
+        let bytes = self.memory.iter().chain(&self.outputs).chain(&self.trace);
+        bytes.fold(self.done, |sum, &b| {
+            (sum ^ u64::from(b)).wrapping_mul(0x0000_0100_0000_01B3)
+        })
+    }
+}
+
+/// READY down for two states out of sixteen, 500 times.
+fn events() -> Vec<u8> {
+    let event = |number: u32, value: u8| {
+        let [a, b, c, d] = number.to_le_bytes();
+        [a, b, c, d, 0, value]
+    };
+    (0..500)
+        .flat_map(|k| [event(16 * k, 0), event(16 * k + 2, 1)])
+        .flatten()
+        .collect()
+}
+
+fn measure(side: Rounds, program: &str, way: &str, calls: u32) {
+    let mut world = World::new(program, way);
+    let start = Instant::now();
+    if way == "on" {
+        world.go(side, calls);
+    } else {
+        for _ in 0..calls {
+            world.go(side, 1);
+        }
+    }
+    let seconds = start.elapsed().as_secs_f64();
+    assert!(world.done == u64::from(calls) * u64::from(STATES));
+    println!("{:016x} {seconds:.3}", world.checksum());
+}
+
+/// After each number of runs both sides have done the same: states, memory, outputs and trace.
+fn same(program: &str, way: &str, calls: u32) {
+    let mut proved = World::new(program, way);
+    let mut plain = World::new(program, way);
+    for call in 1..=calls {
+        if way == "on" {
+            proved = World::new(program, way);
+            plain = World::new(program, way);
+        }
+        let runs = if way == "on" { call } else { 1 };
+        proved.go(rounds, runs);
+        plain.go(plain::rounds, runs);
+        assert!(proved == plain, "{program}, {way}: run {call} differs");
+    }
+}
+
+fn main() {
+    let words: Vec<String> = std::env::args().collect();
+    assert!(words.len() == 5, "bench-run SIDE PROGRAM WAY CALLS");
+    let (program, way) = (words[2].as_str(), words[3].as_str());
+    assert!(matches!(way, "on" | "cold" | "events"));
+    let calls = words[4].parse().expect("a number of calls");
+    match words[1].as_str() {
+        "proved" => measure(black_box(rounds), program, way, calls),
+        "plain" => measure(black_box(plain::rounds), program, way, calls),
+        "same" => same(program, way, calls),
+        _ => panic!("a side is proved, plain or same"),
+    }
+}
