@@ -1,5 +1,6 @@
 //! `bench-run SIDE PROGRAM WAY CALLS`: so many runs of 8,192 states, their checksum and their time.
 //! `bench-run same PROGRAM WAY CALLS`: fails unless both sides leave the same after each run.
+//! `bench-run wild CALLS`: the same for runs of random bytes under random events, each from a cold machine.
 //!
 //! SIDE is proved or plain, PROGRAM is mix, dcr or int. WAY is
 //! - on: the machine goes on from run to run, and no event comes;
@@ -120,8 +121,35 @@ fn same(program: &str, way: &str, calls: u32) {
     }
 }
 
+/// Both sides do the same with random memory, ports and events.
+fn wild(calls: u64) {
+    let mut states = 0;
+    for seed in 1..=calls {
+        let mut random = programs::Random(seed.wrapping_mul(0x9E37_79B9_7F4A_7C15));
+        let memory = programs::wild(&mut random);
+        let schedule = programs::wild_events(&mut random);
+        let world = || World {
+            memory: memory.clone(),
+            inputs: (0..=255).map(|p: u8| p ^ seed as u8).collect(),
+            outputs: vec![0; 256],
+            schedule: schedule.clone(),
+            trace: vec![0; 8 * STATES as usize],
+            done: 0,
+        };
+        let (mut proved, mut plain) = (world(), world());
+        proved.go(rounds, 1);
+        plain.go(plain::rounds, 1);
+        assert!(proved == plain, "wild run {seed} differs");
+        states += proved.done;
+    }
+    println!("{calls} wild runs of {states} states: the same on both sides");
+}
+
 fn main() {
     let words: Vec<String> = std::env::args().collect();
+    if words.len() == 3 && words[1] == "wild" {
+        return wild(words[2].parse().expect("a number of runs"));
+    }
     assert!(words.len() == 5, "bench-run SIDE PROGRAM WAY CALLS");
     let (program, way) = (words[2].as_str(), words[3].as_str());
     assert!(matches!(way, "on" | "cold" | "events"));

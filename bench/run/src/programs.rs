@@ -44,10 +44,43 @@ fn copying_loop(memory: &mut [u8]) {
     put(memory, 0x100, &body);
 }
 
-struct Random(u64);
+/// Random bytes, in which the twelve undefined opcodes and most halts give way to EI and others.
+pub fn wild(random: &mut Random) -> Vec<u8> {
+    let defined =
+        |b: u8| !(b & 0xC7 == 0 && b != 0 || matches!(b, 0xCB | 0xD9 | 0xDD | 0xED | 0xFD));
+    let mut byte = || loop {
+        let b = random.byte();
+        if b == 0x76 && random.next() % 4 > 0 {
+            return 0xFB;
+        }
+        if defined(b) || random.next() % 200 == 0 {
+            return b;
+        }
+    };
+    (0..65_536).map(|_| byte()).collect()
+}
+
+/// Up to 1,000 events in order: each line is set now and then, to any value that it takes.
+pub fn wild_events(random: &mut Random) -> Vec<u8> {
+    let mut schedule = Vec::new();
+    let mut number = 0;
+    while schedule.len() < 5_980 {
+        number += random.next() % 24;
+        let [a, b, c, d] = number.to_le_bytes();
+        for (line, values) in [(0, 2), (1, 2), (2, 9)] {
+            if random.next() % 3 == 0 {
+                schedule.extend([a, b, c, d, line, (random.next() % values) as u8]);
+            }
+        }
+        number += 1;
+    }
+    schedule
+}
+
+pub struct Random(pub u64);
 
 impl Random {
-    fn next(&mut self) -> u32 {
+    pub fn next(&mut self) -> u32 {
         self.0 ^= self.0 << 13;
         self.0 ^= self.0 >> 7;
         self.0 ^= self.0 << 17;

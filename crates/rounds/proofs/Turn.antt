@@ -15,7 +15,8 @@ use Rattle.run.specs.declared.answer.Ran.{Ran}
 use Rattle.run.specs.declared.answer.Answer.{Answer}
 use Rattle.run.specs.declared.answer.Answer.the-variants.{Done, Stopped}
 use Rattle.run.specs.Run.{World, stoppedOf, runOf}
-use Rattle.run.specs.Check.{startOf, verdictOf, ranOf, ranIn, leftBy, leftOf, endedOf, answerBy, answerOf, Outcome}
+use Rattle.run.specs.Answer.{ranOf}
+use Rattle.run.specs.Outcome.{startOf, verdictOf, ranIn, leftBy, leftOf, endedOf, answerBy, answerOf, Outcome}
 use Rattle.run.proofs.Turn.{world}
 use Rattle.rounds.specs.Rounds.{roundOf, roundsOf, Rounded}
 

@@ -4,7 +4,7 @@ use mathlib.Core.Path.{_≡_}
 use mathlib.Core.List.{List}
 use Rattle.machine.specs.Record.{coldOf}
 use Rattle.run.specs.Run.{World}
-use Rattle.run.specs.Check.{startOf, leftOf}
+use Rattle.run.specs.Outcome.{startOf, leftOf}
 
 -- one run of n states more from the world w, whose states are those of all runs before, modulo 2^64
 unfoldable pub roundOf : List ℕ → List ℕ → ℕ → World → World

@@ -1,6 +1,6 @@
 // Many runs in one C function, so that tests and benchmarks call what was proved.
 ghost use mathlib.Core.Path.{_≡_};
-ghost use Rattle.run.specs.Check.{ranOf};
+ghost use Rattle.run.specs.Answer.{ranOf};
 ghost use Rattle.rounds.specs.Rounds.{Rounded};
 use machine::record::Machine;
 use run::Asked;
