@@ -1,10 +1,16 @@
 // One state. In all of these c is the cycle, y what is known of it, and v the byte on the bus.
 ghost use mathlib.Core.Path.{_≡_};
-ghost use Prim.Native.Nat.{_<_};
+ghost use mathlib.Core.Bool.{true};
+ghost use lib.Dec.{eqb};
+ghost use Rattle.laws.specs.Choice.{pick};
 ghost use Rattle.opcodes.specs.Entries.{entries};
-ghost use Rattle.machine.specs.Step.{risenOf, waitOf, secondOf, fetchedOf, onwardOf, tookOf, thirdOf};
+ghost use Rattle.opcodes.specs.Cycles.{definedOf};
+ghost use Rattle.machine.specs.Cycle.{cycleOf};
+ghost use Rattle.machine.specs.Ending.{endOf};
+ghost use Rattle.machine.specs.Step.{risenOf, waitOf, secondOf, fetchedOf, onwardOf, tookOf};
 ghost use Rattle.machine.specs.Step.{laterOf, haltedOf, movedOf, stepOf};
 use crate::cycle::Cycle;
+use crate::cycle::code_at;
 use crate::cycle::cycle_at;
 use crate::cycle::is_defined;
 use crate::record::Machine;
@@ -30,6 +36,26 @@ fn risen(code: u8, k: Kept, r: Registers) -> Registers
     } else {
         r
     }
+}
+
+// Whether a cycle of n states ends with state s.
+fn over(n: u8, s: u8) -> bool
+    ensures { λ b. ⌜ b ≡ pick (eqb s 3) (eqb n 3) (pick (eqb s 4) (eqb n 4) true) ⌝ }
+{
+    if s == 3 {
+        return n == 3;
+    }
+    if s == 4 {
+        return n == 4;
+    }
+    true
+}
+
+// The state after T3 or T4.
+fn state_after(s: u8) -> u8
+    ensures { λ n. ⌜ n ≡ pick (eqb s 3) 4 5 ⌝ }
+{
+    if s == 3 { 4 } else { 5 }
 }
 
 impl Machine {
@@ -67,21 +93,6 @@ impl Machine {
         }
     }
 
-    // The changes of state s are made: the end of the cycle, or its next state.
-    fn onward(self, y: Cycle, c: u8, s: u8) -> Machine
-        requires { ⌜ s < 5 ⌝ }
-        ensures { λ n. ⌜ n ≡ onwardOf y c s self ⌝ }
-    {
-        if y.states == s {
-            self.end(c, y.after)
-        } else {
-            self.with_next(Position::Later {
-                cycle: c,
-                state: s + 1,
-            })
-        }
-    }
-
     // T3 of a later cycle: the byte is kept, where the cycle reads one.
     fn took(self, code: u8, c: u8, v: u8) -> Machine
         ensures { λ n. ⌜ n ≡ tookOf code c v self ⌝ }
@@ -94,34 +105,45 @@ impl Machine {
         }
     }
 
-    // T3.
-    fn third(self, y: Cycle, c: u8, defined: bool, v: u8) -> Machine
-        ensures { λ n. ⌜ n ≡ thirdOf y c defined v self ⌝ }
+    // T3 of a later cycle keeps its byte, any other state does nothing.
+    fn took_in(self, s: u8, code: u8, c: u8, v: u8) -> Machine
+        ensures { λ n. ⌜ n ≡ pick (eqb s 3) (tookOf code c v self) self ⌝ }
     {
-        if c == 1 {
-            self.fetched(defined, v)
+        if s == 3 { self.took(code, c, v) } else { self }
+    }
+
+    // State s, T3 of a fetch and what comes before it apart: the end of the cycle, or its next state.
+    fn onward(self, y: Cycle, c: u8, s: u8, v: u8) -> Machine
+        ensures { λ n. ⌜ n ≡ pick (eqb s 3) (onwardOf y c 3 (tookOf (y .code) c v self)) (pick (eqb s 4) (onwardOf y c 4 self) (endOf c (y .after) self)) ⌝ }
+    {
+        let took = self.took_in(s, y.code, c, v);
+        if over(y.states, s) {
+            took.end(c, y.after)
         } else {
-            self.took(y.code, c, v).onward(y, c, 3)
+            took.with_next(Position::Later {
+                cycle: c,
+                state: state_after(s),
+            })
         }
     }
 
-    // State s of a cycle, T1 of the first apart.
-    fn later(self, y: Cycle, c: u8, s: u8, defined: bool, v: u8) -> Machine
-        ensures { λ n. ⌜ n ≡ laterOf y c s defined v self ⌝ }
+    // State s of a cycle, T1 of the first apart. Only what the state needs is looked up, and `end` has one call.
+    fn later(self, t: &[u64; 256], c: u8, s: u8, v: u8) -> Machine
+        requires { ⌜ now t ≡ entries ⌝ }
+        ensures { λ n. ⌜ n ≡ laterOf (cycleOf (self .kept .opcode) (self .regs .f) c) c s (definedOf v) v self ⌝ }
     {
+        let kept = self.kept;
+        let regs = self.regs;
         if s == 1 {
             return self.with_next(Position::Later { cycle: c, state: 2 });
         }
         if s == 2 {
-            return self.second(y.code, c);
+            return self.second(code_at(t, kept.opcode, c), c);
         }
-        if s == 3 {
-            return self.third(y, c, defined, v);
+        if (s == 3) & (c == 1) {
+            return self.fetched(is_defined(t, v), v);
         }
-        if s == 4 {
-            return self.onward(y, c, 4);
-        }
-        self.end(c, y.after)
+        self.onward(cycle_at(t, kept.opcode, regs.f, c), c, s, v)
     }
 
     // A halt state.
@@ -142,15 +164,7 @@ impl Machine {
         let next = self.next;
         match next {
             Position::Fetch => self.with_next(Position::Later { cycle: 1, state: 2 }),
-            Position::Later { cycle: c, state: s } => {
-                self.later(
-                    cycle_at(t, kept.opcode, regs.f, c),
-                    c,
-                    s,
-                    is_defined(t, v),
-                    v,
-                )
-            }
+            Position::Later { cycle: c, state: s } => self.later(t, c, s, v),
             Position::Wait { cycle: c } => self.wait(true, c),
             Position::Hold { cycle: c } => {
                 let y = cycle_at(t, kept.opcode, regs.f, c);

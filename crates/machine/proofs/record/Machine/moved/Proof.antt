@@ -9,10 +9,9 @@ pub moved-spec : {M : Type 1} → statement M
 unfolding movedOf
 moved-spec =
     tie.close
-    (tie.spec (search needs) (search needs) (search needs) (λ c κs. c .before .before .before .before .before .pre)
-    (λ c κs. c .before .before .before .before .before .before .pre) (search needs) (search needs) (search needs)
-    (search needs) (λ c κs. c .before .before .before .before .before .pre) (search needs) (search needs)
-    (search needs) (search needs)
+    (tie.spec (search needs) (search needs) (search needs) (λ c κs. c .before .before .before .before .before .pre) (search needs) (search needs) (search needs)
+    (λ c κs. c .before .before .before .before .before .pre) (search needs) (search needs) (search needs)
+    (search needs)
     (λ c.
     simp (
       ← (c .with-next .ensures),
@@ -21,9 +20,7 @@ moved-spec =
     (λ c.
     simp (
       ← (c .later .ensures),
-      ← (c .before .is-defined .ensures),
-      ← (c .before .before .cycle-at .ensures),
-      c .before .before .before .before .next .given .1,
+      c .before .before .next .given .1,
     ))
     (λ c.
     simp (
@@ -33,7 +30,7 @@ moved-spec =
     (λ c.
     simp (
       ← (c .hold .ensures),
-      ← (c .before .cycle-at2 .ensures),
+      ← (c .before .cycle-at .ensures),
       c .before .before .before .next3 .given .1,
     ))
     (λ c.
@@ -41,4 +38,5 @@ moved-spec =
       ← (c .halted .ensures),
       c .before .enum-told2 .given .1,
     ))
-    (λ c. simp (c .enum-told3 .given .1)))
+    (λ c.
+    simp (c .enum-told3 .given .1)))
