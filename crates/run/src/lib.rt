@@ -13,7 +13,7 @@ pub mod answer;
 mod bus;
 mod check;
 mod going;
-pub mod state;
+mod state;
 
 // What is asked of a run: this machine, and so many states.
 pub struct Asked {
