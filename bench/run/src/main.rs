@@ -1,6 +1,6 @@
 //! `bench-run SIDE PROGRAM WAY CALLS`: so many runs of 8,192 states, their checksum and their time.
 //! `bench-run same PROGRAM WAY CALLS`: fails unless both sides leave the same after each run.
-//! `bench-run wild CALLS`: the same for runs of random bytes under random events, each from a cold machine.
+//! `bench-run wild CALLS`: the same for runs of random bytes under random events, each from a cold machine, on a stack of 64 KiB.
 //!
 //! SIDE is proved or plain, PROGRAM is mix, dcr or int. WAY is
 //! - on: the machine goes on from run to run, and no event comes;
@@ -16,6 +16,9 @@ use std::hint::black_box;
 use std::time::Instant;
 
 const STATES: u32 = 8_192;
+
+/// The stack that a run may use, in bytes.
+const STACK: usize = 64 * 1024;
 
 #[allow(improper_ctypes, improper_ctypes_definitions)]
 type Rounds = extern "C" fn(u32, u32, &mut [u8], &[u8], &mut [u8], &[u8], &mut [u8]) -> u64;
@@ -121,8 +124,19 @@ fn same(program: &str, way: &str, calls: u32) {
     }
 }
 
-/// Both sides do the same with random memory, ports and events.
+/// Both sides do the same with random memory, ports and events. It runs on a thread whose stack is as large as a run may use: one
+/// that needs more ends the program.
 fn wild(calls: u64) {
+    let small = std::thread::Builder::new().stack_size(STACK);
+    let thread = small.spawn(move || wild_runs(calls)).expect("a thread");
+    let states = thread.join().expect("both sides the same");
+    println!(
+        "{calls} wild runs of {states} states: the same on both sides, on a stack of {STACK} bytes"
+    );
+}
+
+/// The states of so many wild runs.
+fn wild_runs(calls: u64) -> u64 {
     let mut states = 0;
     for seed in 1..=calls {
         let mut random = programs::Random(seed.wrapping_mul(0x9E37_79B9_7F4A_7C15));
@@ -142,7 +156,7 @@ fn wild(calls: u64) {
         assert!(proved == plain, "wild run {seed} differs");
         states += proved.done;
     }
-    println!("{calls} wild runs of {states} states: the same on both sides");
+    states
 }
 
 fn main() {

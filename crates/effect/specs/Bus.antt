@@ -1,7 +1,7 @@
 -- What a cycle puts on the bus, by the two digits of its code (opcodes, specs/Codes). Source: document 01, "Cycles" and
 -- "Trace". Cited by `effect::bus`.
 use Prim.Native.Nat.{ℕ, _+_, _*_, _/_, _%_}
-use mathlib.Core.List.{[], _∷_}
+use mathlib.Core.List.{List, [], _∷_}
 use lib.ListN.{getD}
 use Rattle.alu.specs.Words.{upOf, downOf}
 use Rattle.effect.specs.declared.registers.Registers.{Registers}
@@ -12,10 +12,9 @@ use Rattle.effect.specs.Kept.{wzOf}
 
 -- the address, pc being what PC was in the cycle's T1: none; PC; PC; HL; the pair; WZ and one more; SP and one more, one
 -- less, two less; "for ports it is the port times 257"; PC in a halt acknowledge; none in an internal cycle
-unfoldable pub addressOf : ℕ → ℕ → Kept → Registers → ℕ
-addressOf code pc k r =
-    getD
-    (0
+abbrev pub addresses : ℕ → Kept → Registers → List ℕ
+addresses pc k r =
+    0
     ∷ pc
     ∷ pc
     ∷ word (r .h) (r .l)
@@ -28,12 +27,10 @@ addressOf code pc k r =
     ∷ downOf (r .sp) 2
     ∷ 257 * k .b1
     ∷ pc
-    ∷ 0
-    ∷ 0
-    ∷ 0
-    ∷ [])
-    (code / 16)
-    0
+    ∷ []
+
+unfoldable pub addressOf : ℕ → ℕ → Kept → Registers → ℕ
+addressOf code pc k r = getD (addresses pc k r) (code / 16) 0
 
 -- the byte that goes out: none; A; H; L; the register; the byte read, one more, one less; PC's bytes; the pair's bytes; L
 unfoldable pub givenOf : ℕ → Kept → Registers → ℕ

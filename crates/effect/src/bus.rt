@@ -11,38 +11,27 @@ use crate::registers::reg;
 use alu::words::down;
 use alu::words::up;
 
-// The address, by the first digit; pc is what PC was in the cycle's T1. Most cycles show PC: the other addresses are computed
-// only where they are asked.
+// The address, by the first digit; pc is what PC was in the cycle's T1.
 pub fn address(code: u8, pc: u16, k: Kept, r: Registers) -> u16
     ensures { λ v. ⌜ v ≡ addressOf code pc k r ⌝ }
 {
-    if code / 16 == 1 {
-        return pc;
+    let digit = code / 16;
+    match digit {
+        0 => 0,
+        1 => pc,
+        2 => pc,
+        3 => (r.h as u16) * 256 + (r.l as u16),
+        4 => pair(k.opcode / 16, r),
+        5 => wz(k),
+        6 => up(wz(k), 1),
+        7 => r.sp,
+        8 => up(r.sp, 1),
+        9 => down(r.sp, 1),
+        10 => down(r.sp, 2),
+        11 => 257 * (k.b1 as u16),
+        12 => pc,
+        _ => 0,
     }
-    if code / 16 == 2 {
-        return pc;
-    }
-    let w = wz(k);
-    let all = [
-        0,
-        pc,
-        pc,
-        (r.h as u16) * 256 + (r.l as u16),
-        pair(k.opcode / 16, r),
-        w,
-        up(w, 1),
-        r.sp,
-        up(r.sp, 1),
-        down(r.sp, 1),
-        down(r.sp, 2),
-        257 * (k.b1 as u16),
-        pc,
-        0,
-        0,
-        0,
-    ];
-    let i = (code / 16) as usize;
-    all[i]
 }
 
 // The byte that a write or an output gives, by the second digit.

@@ -38,8 +38,8 @@ impl Machine {
             regs: regs,
             kept: kept,
             lines: lines,
-            clock: self.clock,
             next: Position::Fetch,
+            ..self
         }
     }
 
@@ -47,14 +47,10 @@ impl Machine {
     pub fn clear(self, next: Position) -> Machine
         ensures { λ n. ⌜ n ≡ clearOf next self ⌝ }
     {
-        let regs = self.regs;
-        let lines = self.lines;
         Machine {
-            regs: regs,
             kept: kept_for(Acknowledge::None, 0),
-            lines: lines,
-            clock: self.clock,
             next: next,
+            ..self
         }
     }
 

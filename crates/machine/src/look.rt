@@ -49,8 +49,11 @@ fn stands(s: u8) -> bool
 fn first_pc(code: u8, s: u8, k: Kept, r: Registers) -> u16
     ensures { λ v. ⌜ v ≡ firstPcOf code s k r ⌝ }
 {
+    if s <= 2 {
+        return r.pc;
+    }
     let ack = k.ack;
-    if opcodes::cycle::raises(code, ack) & (2 < s) {
+    if opcodes::cycle::raises(code, ack) {
         alu::words::down(r.pc, 1)
     } else {
         r.pc

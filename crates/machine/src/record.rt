@@ -78,54 +78,36 @@ impl Machine {
     pub fn with_next(self, next: Position) -> Machine
         ensures { λ n. ⌜ n ≡ withNext next self ⌝ }
     {
-        let regs = self.regs;
-        let kept = self.kept;
-        let lines = self.lines;
-        Machine {
-            regs: regs,
-            kept: kept,
-            lines: lines,
-            clock: self.clock,
-            next: next,
-        }
+        Machine { next: next, ..self }
     }
 
     pub fn with_regs(self, regs: Registers) -> Machine
         ensures { λ n. ⌜ n ≡ withRegs regs self ⌝ }
     {
-        let mut n = self;
-        n.regs = regs;
-        n
+        Machine { regs: regs, ..self }
     }
 
     pub fn with_kept(self, kept: Kept) -> Machine
         ensures { λ n. ⌜ n ≡ withKept kept self ⌝ }
     {
-        let lines = self.lines;
-        let regs = self.regs;
-        let next = self.next;
-        Machine {
-            regs: regs,
-            kept: kept,
-            lines: lines,
-            clock: self.clock,
-            next: next,
-        }
+        Machine { kept: kept, ..self }
     }
 
     pub fn with_lines(self, lines: Lines) -> Machine
         ensures { λ n. ⌜ n ≡ withLines lines self ⌝ }
     {
-        let mut n = self;
-        n.lines = lines;
-        n
+        Machine {
+            lines: lines,
+            ..self
+        }
     }
 
     pub fn with_clock(self, clock: u32) -> Machine
         ensures { λ n. ⌜ n ≡ withClock clock self ⌝ }
     {
-        let mut n = self;
-        n.clock = clock;
-        n
+        Machine {
+            clock: clock,
+            ..self
+        }
     }
 }

@@ -1,9 +1,12 @@
 // What a state asks of the bus.
 ghost use mathlib.Core.Path.{_≡_};
+ghost use Rattle.effect.specs.Bus.{givenOf};
 ghost use Rattle.machine.specs.Request.{restartOf, askedOf, requestOf};
 use crate::look::Look;
 use crate::record::Machine;
+use effect::bus::given;
 use effect::kept::Kept;
+use effect::registers::Registers;
 
 // What a state asks of the bus. Restart is the byte that the interrupting device puts there.
 pub enum Request {
@@ -23,8 +26,8 @@ pub fn restart(k: Kept) -> u8
 }
 
 // What a cycle of each kind asks of the bus; b is the byte that goes out.
-fn asked(kind: u8, a: u16, b: u8, k: Kept) -> Request
-    ensures { λ q. ⌜ q ≡ askedOf kind a b k ⌝ }
+fn asked(kind: u8, code: u8, a: u16, k: Kept, r: Registers) -> Request
+    ensures { λ q. ⌜ q ≡ askedOf kind a (givenOf code k r) k ⌝ }
 {
     match kind {
         0 => Request::Nothing,
@@ -32,17 +35,17 @@ fn asked(kind: u8, a: u16, b: u8, k: Kept) -> Request
         2 => Request::Read { address: a },
         3 => Request::Write {
             address: a,
-            byte: b,
+            byte: given(code, k, r),
         },
         4 => Request::Read { address: a },
         5 => Request::Write {
             address: a,
-            byte: b,
+            byte: given(code, k, r),
         },
         6 => Request::Input { port: k.b1 },
         7 => Request::Output {
             port: k.b1,
-            byte: b,
+            byte: given(code, k, r),
         },
         8 => Request::Restart { byte: restart(k) },
         9 => Request::Nothing,
@@ -59,12 +62,7 @@ impl Machine {
         let kept = self.kept;
         let regs = self.regs;
         if y.state == 3 {
-            asked(
-                y.kind,
-                y.address,
-                effect::bus::given(y.code, kept, regs),
-                kept,
-            )
+            asked(y.kind, y.code, y.address, kept, regs)
         } else {
             Request::Nothing
         }

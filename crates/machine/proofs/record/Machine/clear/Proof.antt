@@ -10,4 +10,4 @@ unfolding clearOf
 clear-spec =
     tie.close
     (tie.spec (search needs)
-    (λ c. simp (← (c .kept-for .ensures))))
+    (λ c. simp (← (c .before .before .kept-for .ensures))))

@@ -10,6 +10,6 @@ pub request-spec : {M : Type 1} → statement M
 unfolding requestOf
 request-spec =
     tie.close
-    (tie.spec (search needs) (search needs)
-    (λ c. simp (← (c .asked .ensures), ← (c .before .given .ensures), eq-eqb _ _ (c .before .before .if1 .taken)))
+    (tie.spec (search needs)
+    (λ c. simp (← (c .asked .ensures), eq-eqb _ _ (c .before .if1 .taken)))
     (λ c. simp (ne-eqb _ _ (c .if1 .left))))
