@@ -18,14 +18,14 @@ use opcodes::cycle::states;
 use opcodes::cycle::waits;
 
 // The flag byte's fixed bits.
-fn fixed(f: u8) -> bool
+pub fn fixed(f: u8) -> bool
     ensures { λ b. ⌜ b ≡ fixedOf f ⌝ }
 {
     (f / 32 % 2 == 0) & (f / 8 % 2 == 0) & (f / 2 % 2 == 1)
 }
 
 // The values that lines may have.
-fn listed(l: Lines) -> bool
+pub fn listed(l: Lines) -> bool
     ensures { λ b. ⌜ b ≡ listedOf l ⌝ }
 {
     (l.ready <= 1) & (l.hold <= 1) & (l.int <= 8)

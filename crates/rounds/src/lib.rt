@@ -1,22 +1,9 @@
 // Many runs in one C function, so that tests and benchmarks call what was proved.
 ghost use mathlib.Core.Path.{_≡_};
-ghost use Rattle.run.specs.Answer.{ranOf};
 ghost use Rattle.rounds.specs.Rounds.{Rounded};
 use machine::record::Machine;
 use run::Asked;
-use run::answer::Answer;
-use run::answer::Ran;
-
-// The machine and the states of any answer.
-fn ran(a: Answer) -> Ran
-    ensures { λ r. ⌜ r ≡ ranOf a ⌝ }
-{
-    match a {
-        Answer::Done { ran: r } => r,
-        Answer::Stopped { ran: r } => r,
-        Answer::Refused { reason: _, ran: r } => r,
-    }
-}
+use run::ran;
 
 // So many calls of `run` from a cold machine, each with so many states and the machine of the answer before: the states done
 // in all. A refused call does none; memory, outputs and trace are lent on, so each call writes its trace over the last one's.

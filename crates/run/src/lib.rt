@@ -1,5 +1,6 @@
 // A run: a number of states over lent memory, ports and trace, driven by a schedule.
 ghost use mathlib.Core.Path.{_≡_};
+ghost use Rattle.run.specs.Answer.{ranOf};
 ghost use Rattle.run.specs.Outcome.{endedOf, Outcome};
 use crate::answer::Answer;
 use crate::answer::Ran;
@@ -62,5 +63,16 @@ pub fn run(
                 states: 0,
             },
         },
+    }
+}
+
+// The machine and the states of any answer.
+pub fn ran(a: Answer) -> Ran
+    ensures { λ r. ⌜ r ≡ ranOf a ⌝ }
+{
+    match a {
+        Answer::Done { ran: r } => r,
+        Answer::Stopped { ran: r } => r,
+        Answer::Refused { reason: _, ran: r } => r,
     }
 }

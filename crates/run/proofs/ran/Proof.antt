@@ -1,8 +1,8 @@
--- `rounds::ran` meets its contract.
+-- `run::ran` meets its contract.
 -- Assumes nothing.
 use borrow.Author.Needs.{needs}
-use Rattle.rounds.proofs.ran.Statement.{statement}
-use Rattle.rounds.proofs.ran.Tie as tie
+use Rattle.run.proofs.ran.Statement.{statement}
+use Rattle.run.proofs.ran.Tie as tie
 
 pub ran-spec : {M : Type 1} → statement M
 ran-spec =
