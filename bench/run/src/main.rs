@@ -10,6 +10,7 @@
 mod arithmetic;
 mod plain;
 mod programs;
+mod proved;
 mod tables;
 
 use std::hint::black_box;
@@ -20,22 +21,8 @@ const STATES: u32 = 8_192;
 /// The stack that a run may use, in bytes.
 const STACK: usize = 64 * 1024;
 
-#[allow(improper_ctypes, improper_ctypes_definitions)]
-type Rounds = extern "C" fn(u32, u32, &mut [u8], &[u8], &mut [u8], &[u8], &mut [u8]) -> u64;
-
-#[allow(improper_ctypes)]
-unsafe extern "C" {
-    /// The function of `crates/rounds`. It is proved for all arguments, so every call is safe.
-    safe fn rounds(
-        calls: u32,
-        states: u32,
-        memory: &mut [u8],
-        inputs: &[u8],
-        outputs: &mut [u8],
-        s: &[u8],
-        trace: &mut [u8],
-    ) -> u64;
-}
+/// Runs in a row: how many, of how many states, over memory, inputs, outputs, schedule and trace; the states done in all.
+type Rounds = fn(u32, u32, &mut [u8], &[u8], &mut [u8], &[u8], &mut [u8]) -> u64;
 
 /// What is lent to a run.
 #[derive(PartialEq)]
@@ -118,7 +105,7 @@ fn same(program: &str, way: &str, calls: u32) {
             plain = World::new(program, way);
         }
         let runs = if way == "on" { call } else { 1 };
-        proved.go(rounds, runs);
+        proved.go(proved::rounds, runs);
         plain.go(plain::rounds, runs);
         assert!(proved == plain, "{program}, {way}: run {call} differs");
     }
@@ -151,7 +138,7 @@ fn wild_runs(calls: u64) -> u64 {
             done: 0,
         };
         let (mut proved, mut plain) = (world(), world());
-        proved.go(rounds, 1);
+        proved.go(proved::rounds, 1);
         plain.go(plain::rounds, 1);
         assert!(proved == plain, "wild run {seed} differs");
         states += proved.done;
@@ -169,8 +156,8 @@ fn main() {
     assert!(matches!(way, "on" | "cold" | "events"));
     let calls = words[4].parse().expect("a number of calls");
     match words[1].as_str() {
-        "proved" => measure(black_box(rounds), program, way, calls),
-        "plain" => measure(black_box(plain::rounds), program, way, calls),
+        "proved" => measure(black_box(proved::rounds as Rounds), program, way, calls),
+        "plain" => measure(black_box(plain::rounds as Rounds), program, way, calls),
         "same" => same(program, way, calls),
         _ => panic!("a side is proved, plain or same"),
     }

@@ -467,8 +467,7 @@ fn run(
 }
 
 /// So many runs of so many states from a cold machine: the states done in all.
-#[allow(improper_ctypes_definitions)]
-pub extern "C" fn rounds(
+pub fn rounds(
     calls: u32,
     states: u32,
     memory: &mut [u8],
