@@ -1,0 +1,13 @@
+-- `saved::fields::lines_in` meets its contract.
+-- Assumes nothing.
+use Rattle.saved.specs.Fields.{linesIn}
+use mathlib.Core.Path.{refl}
+use borrow.Author.Needs.{needs}
+use Rattle.saved.proofs.fields.lines_in.Statement.{statement}
+use Rattle.saved.proofs.fields.lines_in.Tie as tie
+
+pub lines-in-spec : {M : Type 1} → statement M
+unfolding linesIn
+lines-in-spec =
+    tie.close
+    (tie.spec (search needs) (search needs) (search needs) (λ c. refl))
