@@ -1,0 +1,31 @@
+-- `listing::lines::last` meets its contract.
+-- Assumes nothing.
+use borrow.Author.Needs.{needs}
+use Rattle.listing.specs.Lines.{lastOf}
+use Rattle.listing.proofs.Written.{both, one}
+use Rattle.listing.proofs.lines.last.Statement.{statement}
+use Rattle.listing.proofs.lines.last.Tie as tie
+
+returns : tie.Need-returns
+unfolding lastOf
+returns c =
+    let feed = c .before .before in
+    let count = feed .before .before .before .before in
+    let third = count .before .before .before .before in
+    let low = third .before .before .before .before .before in
+    let high = low .before .before .before .before in
+    let second = high .before .before .before .before in
+    let a = second .before .before .before .before .before in
+    let first = a .before .before .before .before in
+    let given = both _ _ _ (first .word .ensures) (a .byte .ensures) in
+    let half = both _ _ _ (both _ _ _ given (second .word2 .ensures)) (high .byte2 .ensures) in
+    let whole = both _ _ _ half (low .byte3 .ensures) in
+    let counted = both _ _ _ (both _ _ _ whole (third .word3 .ensures)) (count .decimal .ensures) in
+    both _ _ _ counted (one _ _ (feed .put .ensures))
+
+pub last-spec : {M : Type 1} → statement M
+last-spec =
+    tie.close
+    (tie.spec (search needs) (search needs) (search needs) (search needs) (search needs) (search needs) (search needs)
+    (search needs) (search needs) (search needs) (search needs) (search needs) (search needs) (search needs)
+    returns)

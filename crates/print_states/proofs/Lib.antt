@@ -1,0 +1,3 @@
+-- The modules of this folder.
+pub mod Whole
+pub mod Halted

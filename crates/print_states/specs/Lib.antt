@@ -1,0 +1,2 @@
+-- The modules of this folder.
+pub mod Printed
