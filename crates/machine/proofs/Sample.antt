@@ -49,8 +49,16 @@ lines (suc n) memory m =
     line (lookOf m .state) (lookOf m .kind) (lookOf m .address) (byteOn (requestOf (lookOf m) m) memory)
     ∷ lines n memory (stepOf (byteOn (requestOf (lookOf m) m) memory) m)
 
+-- what n states of it leave
+after : ℕ → List ℕ → Machine → Machine
+after zero memory m = m
+after (suc n) memory m = after n memory (stepOf (byteOn (requestOf (lookOf m) m) memory) m)
+
+program : List ℕ
+program = 0x3E ∷ 0x05 ∷ 0x76 ∷ []
+
 sample :
-    lines 14 (0x3E ∷ 0x05 ∷ 0x76 ∷ []) coldOf
+    lines 14 program coldOf
     ≡ line 1 1 0x0000 0x00
     ∷ line 2 1 0x0000 0x00
     ∷ line 3 1 0x0000 0x3E
@@ -66,6 +74,12 @@ sample :
     ∷ line 2 9 0x0003 0x00
     ∷ line 3 9 0x0003 0x00
     ∷ []
-unfolding byteOn line lines coldOf cycling metOf writesOf kindOf statusOf statesOf waitsOf readsOf raisesOf regOf withReg
+unfolding byteOn line lines program coldOf cycling metOf writesOf kindOf statusOf statesOf waitsOf readsOf raisesOf regOf withReg
     pairOf pairHighOf pairLowOf keptFor keepOf wzOf addressOf givenOf finish effectOf stepping showing
 sample = refl
+
+-- "All other registers .. change in the instruction's last state": A, after six states of MVI A and after the seventh
+loaded-last : (after 6 program coldOf .regs .a ≡ 0x00) × (after 7 program coldOf .regs .a ≡ 0x05)
+unfolding byteOn after program coldOf cycling metOf writesOf kindOf statusOf statesOf waitsOf readsOf raisesOf regOf withReg
+    pairOf pairHighOf pairLowOf keptFor keepOf wzOf addressOf givenOf finish effectOf stepping showing
+loaded-last = (refl, refl)
