@@ -36,7 +36,7 @@ fn word_at(s: &[u8], i: usize) -> u16
 }
 
 // The four bytes from i on, low first.
-fn long_at(s: &[u8], i: usize) -> u32
+pub fn long_at(s: &[u8], i: usize) -> u32
     requires { ⌜ (i < 24) × (i + 4 ≤ length (now s)) ⌝ }
     ensures { λ r. ⌜ r ≡ longAt (now (s .entry)) i ⌝ }
 {
@@ -44,7 +44,7 @@ fn long_at(s: &[u8], i: usize) -> u32
 }
 
 // The levels.
-fn lines_in(s: &[u8]) -> Lines
+pub fn lines_in(s: &[u8]) -> Lines
     requires { ⌜ 24 ≤ length (now s) ⌝ }
     ensures { λ l. ⌜ l ≡ linesIn (now (s .entry)) ⌝ }
 {
@@ -81,7 +81,7 @@ fn position(mode: u8) -> Position
 }
 
 // The registers.
-fn registers_in(s: &[u8]) -> Registers
+pub fn registers_in(s: &[u8]) -> Registers
     requires { ⌜ 24 ≤ length (now s) ⌝ }
     ensures { λ r. ⌜ r ≡ registersIn (now (s .entry)) ⌝ }
 {

@@ -11,7 +11,7 @@ use machine::record::Machine;
 
 pub mod answer;
 mod check;
-mod fields;
+pub mod fields;
 mod form;
 mod header;
 

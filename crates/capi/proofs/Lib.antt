@@ -1,0 +1,9 @@
+-- The modules of this folder.
+pub mod Put
+pub mod Steps
+pub mod Runs
+pub mod Loads
+pub mod Back
+pub mod Onward
+pub mod Trip
+pub mod Unique

@@ -1,0 +1,18 @@
+-- `capi::number::packed` meets its contract.
+-- Assumes nothing.
+use mathlib.Core.Path.{ap}
+use native.Mathlib.Omega.{arith}
+use Rattle.run.specs.declared.answer.Ran.{Ran}
+use Rattle.capi.specs.Numbers.{packedOf}
+use borrow.Author.Needs.{needs}
+use Rattle.capi.proofs.number.packed.Statement.{statement}
+use Rattle.capi.proofs.number.packed.Tie as tie
+
+pub packed-spec : {M : Type 1} → statement M
+unfolding packedOf
+packed-spec =
+    tie.close
+    (tie.spec (search needs) (search needs) (search needs)
+    (λ c. omega (arith, ap (λ (r : Ran). r .states) (c .ran .ensures)))
+    (λ c. omega (arith, ap (λ (r : Ran). r .states) (c .ran .ensures)))
+    (λ c. simp (← (c .ran .ensures), ← (c .before .number .ensures))))

@@ -1,0 +1,70 @@
+-- What each C function answers and leaves, for all inputs. Source: document 01, "Numbers returned", and docs/RECORD.md.
+-- Cited by the public functions. z is the record that is handed in, r the answer; a prime marks a list afterwards.
+use Prim.Native.Nat.{ℕ}
+use mathlib.Core.Path.{_≡_}
+use mathlib.Core.List.{List}
+use lib.Dec.{eqb}
+use lib.ListN.{length}
+use Rattle.laws.specs.Choice.{pick}
+use Rattle.machine.specs.declared.record.Machine.{Machine}
+use Rattle.machine.specs.Record.{coldOf}
+use Rattle.machine.specs.Look.{lookOf}
+use Rattle.machine.specs.Request.{requestOf}
+use Rattle.machine.specs.Step.{stepOf}
+use Rattle.run.specs.declared.answer.Answer.{Answer}
+use Rattle.run.specs.declared.answer.Answer.the-variants.{Done, Stopped, Refused}
+use Rattle.run.specs.Outcome.{startOf, leftOf, answerOf}
+use Rattle.saved.specs.declared.answer.Refusal.the-variants.{IllFormed}
+use Rattle.saved.specs.declared.answer.Verdict.{Verdict}
+use Rattle.saved.specs.Header.{savedOf}
+use Rattle.saved.specs.Fields.{machineIn, portsIn, memoryIn}
+use Rattle.saved.specs.Answer.{savingNumber}
+use Rattle.saved.specs.Check.{pass, saveVerdict, loadVerdict}
+use Rattle.saved.specs.Outcome.{leftBy, savingBy}
+use Rattle.capi.specs.Flat.{flatOf, putOf}
+use Rattle.capi.specs.Handed.{handedOf}
+use Rattle.capi.specs.Numbers.{requestNumber, stepNumber, packedOf}
+
+-- a cold machine: 0, or 8 where z is no record
+pub record ColdCall (z : List ℕ) (r : ℕ) (z' : List ℕ) : Type 0 where
+  pub answer : r ≡ pick (eqb (length z) 64) 0 8
+  pub machine : z' ≡ putOf z coldOf
+
+-- what the state that comes next asks of the bus
+unfoldable pub requestCall : List ℕ → ℕ
+requestCall z = requestNumber (requestOf (lookOf (handedOf z)) (handedOf z))
+
+-- one state with the byte v on the bus: where the answer is not 0, nothing changes
+pub record StepCall (z : List ℕ) (v r : ℕ) (z' : List ℕ) : Type 0 where
+  pub answer : r ≡ stepNumber (handedOf z)
+  pub machine : z' ≡ pick (eqb (stepNumber (handedOf z)) 0) (putOf z (stepOf v (handedOf z))) z
+
+-- the record z after a run's answer
+abbrev pub recordBy : Answer → List ℕ → List ℕ
+recordBy (Done ran) z = putOf z (ran .machine)
+recordBy (Stopped ran) z = putOf z (ran .machine)
+recordBy (Refused reason ran) z = z
+
+-- a run of n states over memory x, input ports i, output ports o, the schedule s and the trace l
+pub record RunCall (z : List ℕ) (n : ℕ) (x i o s l : List ℕ) (r : ℕ) (z' x' o' l' : List ℕ) : Type 0 where
+  pub answer : r ≡ packedOf (answerOf (startOf (handedOf z) x o l) i s n)
+  pub machine : z' ≡ recordBy (answerOf (startOf (handedOf z) x o l) i s n) z
+  pub memory : x' ≡ leftOf (startOf (handedOf z) x o l) i s n .memory
+  pub outputs : o' ≡ leftOf (startOf (handedOf z) x o l) i s n .outputs
+  pub trace : l' ≡ leftOf (startOf (handedOf z) x o l) i s n .trace
+
+-- saving with memory x and output ports o into the output f
+pub record SaveCall (z x o f : List ℕ) (r : ℕ) (f' : List ℕ) : Type 0 where
+  pub answer : r ≡ savingNumber (savingBy (saveVerdict (handedOf z) (length x) (length o) (length f)))
+  pub out : f' ≡ leftBy (saveVerdict (handedOf z) (length x) (length o) (length f)) (savedOf (handedOf z) o x) f
+
+-- loading's tests: 8 where z is no record, "12, 13, then 1 and 2"; what the record holds plays no part
+unfoldable pub loadTests : List ℕ → List ℕ → List ℕ → List ℕ → Verdict
+loadTests z s x o = pass (eqb (length z) 64) IllFormed (loadVerdict s (length x) (length o))
+
+-- loading the saved form s into memory x and output ports o
+pub record LoadCall (z s x o : List ℕ) (r : ℕ) (z' x' o' : List ℕ) : Type 0 where
+  pub answer : r ≡ savingNumber (savingBy (loadTests z s x o))
+  pub machine : z' ≡ leftBy (loadTests z s x o) (flatOf (machineIn s)) z
+  pub memory : x' ≡ leftBy (loadTests z s x o) (memoryIn s) x
+  pub outputs : o' ≡ leftBy (loadTests z s x o) (portsIn s) o

@@ -1,0 +1,69 @@
+-- The record of a machine: 64 bytes, of which all but byte 13 of the first 24 are those of the saved form. Source:
+-- docs/RECORD.md. Cited by `capi::flat`.
+use Prim.Native.Nat.{ℕ, zero, suc}
+use mathlib.Core.List.{List, [], _∷_, _++_}
+use lib.ListN.{length}
+use lib.Dec.{eqb}
+use Rattle.laws.specs.Choice.{pick}
+use Rattle.opcodes.specs.declared.cycle.Acknowledge.{Acknowledge}
+use Rattle.opcodes.specs.declared.cycle.Acknowledge.the-variants.{None, Running, Halted}
+use Rattle.effect.specs.declared.kept.Kept.{Kept}
+use Rattle.machine.specs.declared.record.Position.{Position}
+use Rattle.machine.specs.declared.record.Position.the-variants.{Fetch, Later, Wait, Hold, Halt, Stop}
+use Rattle.machine.specs.declared.record.Machine.{Machine}
+use Rattle.saved.specs.Header.{long, registerBytes, lineBytes}
+
+-- what comes next, its cycle and its state, 0 where none is named
+unfoldable pub nextByte : Position → ℕ
+nextByte Fetch = 0
+nextByte (Later c s) = 3
+nextByte (Wait c) = 4
+nextByte (Hold c) = 5
+nextByte Halt = 1
+nextByte Stop = 2
+
+unfoldable pub cycleByte : Position → ℕ
+cycleByte Fetch = 0
+cycleByte (Later c s) = c
+cycleByte (Wait c) = c
+cycleByte (Hold c) = c
+cycleByte Halt = 0
+cycleByte Stop = 0
+
+unfoldable pub stateByte : Position → ℕ
+stateByte Fetch = 0
+stateByte (Later c s) = s
+stateByte (Wait c) = 0
+stateByte (Hold c) = 0
+stateByte Halt = 0
+stateByte Stop = 0
+
+-- "whether this is an acknowledge (none, from running, from halt)"
+unfoldable pub acknowledgeByte : Acknowledge → ℕ
+acknowledgeByte None = 0
+acknowledgeByte Running = 1
+acknowledgeByte Halted = 2
+
+-- what is kept inside an instruction
+abbrev pub keptBytes : Kept → List ℕ
+keptBytes k = k .opcode ∷ acknowledgeByte (k .ack) ∷ k .rst ∷ k .b1 ∷ k .b2 ∷ k .b3 ∷ k .b4 ∷ []
+
+-- n zeros
+abbrev pub noughts : ℕ → List ℕ
+noughts zero = []
+noughts (suc n) = 0 ∷ noughts n
+
+-- the 64 bytes of the machine m
+unfoldable pub flatOf : Machine → List ℕ
+flatOf m =
+    registerBytes (m .regs)
+    ++ nextByte (m .next)
+    ∷ (long (m .clock)
+    ++ lineBytes (m .lines)
+    ++ cycleByte (m .next)
+    ∷ stateByte (m .next)
+    ∷ (keptBytes (m .kept) ++ noughts 31))
+
+-- the record z with the machine m in it: a list that is no record stays
+unfoldable pub putOf : List ℕ → Machine → List ℕ
+putOf z m = pick (eqb (length z) 64) (flatOf m) z

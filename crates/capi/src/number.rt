@@ -1,0 +1,73 @@
+// What the C functions answer, as numbers.
+ghost use mathlib.Core.Path.{_≡_};
+ghost use Prim.Native.Nat.{_≤_};
+ghost use Rattle.run.specs.Answer.{ranOf};
+ghost use Rattle.capi.specs.Numbers.{requestNumber, stepNumber, packedOf};
+use crate::flat::next_byte;
+use machine::record::Machine;
+use machine::request::Request;
+use run::answer::Answer;
+use run::answer::Ran;
+use run::answer::number;
+
+// Document 01's numbers that are given here and not by `run` or `saved`.
+pub const DONE: u8 = 0;
+
+pub const ILL_FORMED: u8 = 8;
+
+const CLOCK_RANGE: u8 = 9;
+
+const STOPPED: u8 = 10;
+
+// A request: which it is, times 2^24, the byte, times 2^16, and the address or the port.
+pub fn request_number(q: Request) -> u32
+    ensures { λ r. ⌜ r ≡ requestNumber q ⌝ }
+{
+    match q {
+        Request::Nothing => 0,
+        Request::Read { address: a } => 0x1000000 + (a as u32),
+        Request::Write {
+            address: a,
+            byte: b,
+        } => 0x2000000 + 0x10000 * (b as u32) + (a as u32),
+        Request::Input { port: p } => 0x3000000 + (p as u32),
+        Request::Output { port: p, byte: b } => 0x4000000 + 0x10000 * (b as u32) + (p as u32),
+        Request::Restart { byte: b } => 0x5000000 + 0x10000 * (b as u32),
+    }
+}
+
+// The tests of one state: 8, 9 and 10, as a run of one state has them.
+pub fn step_number(m: Machine) -> u8
+    ensures { λ r. ⌜ r ≡ stepNumber m ⌝ }
+{
+    let next = m.next;
+    if !m.well() {
+        return ILL_FORMED;
+    }
+    if m.clock == 4294967295 {
+        return CLOCK_RANGE;
+    }
+    if next_byte(next) == 2 {
+        return STOPPED;
+    }
+    DONE
+}
+
+// The machine and the states of any answer.
+pub fn ran(a: Answer) -> Ran
+    ensures { λ r. ⌜ r ≡ ranOf a ⌝ }
+{
+    match a {
+        Answer::Done { ran: r } => r,
+        Answer::Stopped { ran: r } => r,
+        Answer::Refused { reason: _, ran: r } => r,
+    }
+}
+
+// A run's answer: its number, and 256 times the states done.
+pub fn packed(a: Answer) -> u64
+    requires { ⌜ ranOf a .states ≤ 4294967295 ⌝ }
+    ensures { λ r. ⌜ r ≡ packedOf a ⌝ }
+{
+    (number(a) as u64) + 256 * (ran(a).states as u64)
+}

@@ -1,0 +1,27 @@
+-- The modules of this folder, in reading order: what Intel's manual says, demand 1, what a run is made of, demands 2 and 3, and the
+-- bench cards.
+pub mod Symbols
+pub mod Manual
+pub mod States
+pub mod IllFormed
+pub mod Refusals
+pub mod Saving
+pub mod Demand1
+pub mod Outside
+pub mod Rows
+pub mod Course
+pub mod Board
+pub mod Between
+pub mod Legs
+pub mod Costs
+pub mod Calls
+pub mod Demand2
+pub mod Trace
+pub mod Demand3
+pub mod Own
+pub mod Bound
+pub mod Tight
+pub mod Stopping
+pub mod Cards
+pub mod Bench
+pub mod Sample

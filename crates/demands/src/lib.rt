@@ -1,0 +1,1 @@
+// Nothing runs here: what Intel's manual says, the statements of the demands, and their proofs.
