@@ -7,8 +7,8 @@ use crate::flat::next_byte;
 use machine::record::Machine;
 use machine::request::Request;
 use run::answer::Answer;
-use run::answer::Ran;
 use run::answer::number;
+use run::ran;
 
 // Document 01's numbers that are given here and not by `run` or `saved`.
 pub const DONE: u8 = 0;
@@ -51,17 +51,6 @@ pub fn step_number(m: Machine) -> u8
         return STOPPED;
     }
     DONE
-}
-
-// The machine and the states of any answer.
-pub fn ran(a: Answer) -> Ran
-    ensures { λ r. ⌜ r ≡ ranOf a ⌝ }
-{
-    match a {
-        Answer::Done { ran: r } => r,
-        Answer::Stopped { ran: r } => r,
-        Answer::Refused { reason: _, ran: r } => r,
-    }
 }
 
 // A run's answer: its number, and 256 times the states done.

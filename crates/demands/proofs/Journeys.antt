@@ -10,12 +10,13 @@ use Rattle.opcodes.specs.Cycles.{definedOf}
 use Rattle.opcodes.specs.declared.cycle.Acknowledge.the-variants.{None}
 use Rattle.effect.specs.Kept.{keptFor}
 use Rattle.machine.specs.declared.record.Position.the-variants.{Fetch, Hold, Halt}
+use Rattle.demands.specs.Between.{Acknowledges}
 use Rattle.demands.specs.Outside.{Outside, pass, up}
 use Rattle.demands.proofs.Work.{opcodeOf, here, workOf}
 use Rattle.demands.specs.Rows.{Through, Row}
 use Rattle.demands.specs.Board.{Board, momentOf}
 use Rattle.demands.specs.Own.{own}
-use Rattle.demands.specs.Bound.{Neither, underWay, Acknowledges}
+use Rattle.demands.specs.Bound.{Neither, underWay}
 use Rattle.demands.specs.Manual.{Result}
 use Rattle.demands.specs.States.{restartStates}
 use Rattle.demands.specs.Legs.{Tally, tally, statesIn, afterwards, opcodeAt, manualAt, statesAt, restartByte, restartAt}

@@ -7,10 +7,11 @@ use native.Mathlib.Omega.{arith}
 use Rattle.machine.specs.declared.record.Position.{Position}
 use Rattle.machine.specs.declared.record.Position.the-variants.{Fetch, Later, Wait, Hold, Halt, Stop}
 use Rattle.run.specs.Run.{stoppedOf}
+use Rattle.demands.specs.Between.{Acknowledges}
 use Rattle.demands.specs.Outside.{Outside, Moment, did}
 use Rattle.demands.specs.Board.{Board, momentOf}
 use Rattle.demands.specs.Own.{own}
-use Rattle.demands.specs.Bound.{sumOf, Neither, underWay, Acknowledges}
+use Rattle.demands.specs.Bound.{sumOf, Neither, underWay}
 use Rattle.demands.proofs.Steps.{step, run}
 use Rattle.demands.proofs.Journeys.{Now, Ran, Stopped, now-step}
 use Rattle.demands.proofs.Runs.{now-awake, run-on, run-off, at-stop}

@@ -48,5 +48,6 @@ pub mod Taken
 pub mod Tight
 pub mod Putting
 pub mod Tracing
+pub mod Undefined
 pub mod Stopping
 pub mod Instances

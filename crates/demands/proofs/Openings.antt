@@ -29,11 +29,12 @@ use Rattle.machine.specs.Look.{firstPcOf}
 use Rattle.machine.specs.Request.{askedOf, restartOf}
 use Rattle.machine.specs.Step.{risenOf, haltedOf}
 use Rattle.run.specs.State.{byteOn}
+use Rattle.demands.specs.Between.{Acknowledges}
 use Rattle.demands.specs.Outside.{Outside, Moment, did, up}
 use Rattle.demands.proofs.Work.{Work, closing, opcodeOf, here, workOf}
 use Rattle.demands.specs.Manual.{Result}
 use Rattle.demands.specs.Board.{Board}
-use Rattle.demands.specs.Bound.{Neither, Acknowledges}
+use Rattle.demands.specs.Bound.{Neither}
 use Rattle.demands.specs.Legs.{afterwards, opcodeAt, restartByte}
 use Rattle.demands.proofs.Opcode.{back}
 use Rattle.demands.proofs.Steps.{step, with, opening, ended-clock, hold-off}
@@ -118,7 +119,7 @@ unfolding endedOf takesOf acknowledgeOf clearOf
 ended-as d op t e = rw e
 
 -- and a leg begins there
-acked : (b : Bool) → isNone (pick b Halted Running) ≡ false
+pub acked : (b : Bool) → isNone (pick b Halted Running) ≡ false
 acked true = refl
 acked false = refl
 

@@ -14,12 +14,13 @@ use Rattle.opcodes.specs.declared.cycle.Acknowledge.the-variants.{None}
 use Rattle.effect.specs.declared.kept.Kept.{Kept}
 use Rattle.effect.specs.Kept.{keptFor}
 use Rattle.machine.specs.declared.record.Position.the-variants.{Fetch}
+use Rattle.demands.specs.Between.{Acknowledges}
 use Rattle.demands.specs.Outside.{Outside, pass}
 use Rattle.demands.proofs.Work.{uses, opcodeOf, closing, resultOf, workOf}
 use Rattle.demands.specs.Rows.{Forced}
 use Rattle.demands.specs.Board.{Board, momentOf}
 use Rattle.demands.specs.Course.{courseOf}
-use Rattle.demands.specs.Bound.{Neither, underWay, Acknowledges}
+use Rattle.demands.specs.Bound.{Neither, underWay}
 use Rattle.demands.specs.Manual.{Result}
 use Rattle.demands.specs.States.{manualStates}
 use Rattle.demands.specs.Legs.{afterwards, opcodeAt, manualAt, statesAt, restartByte, restartAt}

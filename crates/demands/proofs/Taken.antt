@@ -9,9 +9,9 @@ use Rattle.run.specs.Run.{stoppedOf}
 use Rattle.demands.specs.Outside.{Outside, intIn, outsideOf}
 use Rattle.demands.specs.Board.{Board, boardOf}
 use Rattle.demands.specs.Own.{own}
-use Rattle.demands.specs.Between.{begins}
+use Rattle.demands.specs.Between.{begins, Acknowledges}
 use Rattle.demands.specs.Calls.{worldOf}
-use Rattle.demands.specs.Bound.{sumOf, Neither, underWay, Acknowledges, worldAt, Rises, SoonTaken}
+use Rattle.demands.specs.Bound.{sumOf, Neither, underWay, worldAt, Rises, SoonTaken}
 use Rattle.demands.proofs.Stretches.{bool}
 use Rattle.demands.proofs.Steps.{run}
 use Rattle.demands.proofs.Bridge.{bridge}

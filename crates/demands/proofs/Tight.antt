@@ -17,9 +17,9 @@ use Rattle.run.specs.Outcome.{verdictOf}
 use Rattle.demands.specs.Outside.{intIn}
 use Rattle.demands.specs.Board.{Board, boardOf}
 use Rattle.demands.specs.Own.{own}
-use Rattle.demands.specs.Between.{begins}
+use Rattle.demands.specs.Between.{begins, Acknowledges}
 use Rattle.demands.specs.Calls.{worldOf, Reached, amid}
-use Rattle.demands.specs.Bound.{sumOf, Acknowledges, Rises}
+use Rattle.demands.specs.Bound.{sumOf, Rises}
 use Rattle.demands.specs.Tight.{xthl, ports, rising, after, BoundMet}
 use Rattle.demands.proofs.Open.{everything}
 use Rattle.demands.proofs.Cards.{zeros}

@@ -18,3 +18,7 @@ begins Stop = false
 -- the machine is between instructions and has not stopped: "with an acknowledge's T1 next, none does"
 abbrev pub Between : Machine → Type 0
 Between m = (begins (m .next) ≡ true) × (isNone (m .kept .ack) ≡ true)
+
+-- the acknowledge cycle begins
+abbrev pub Acknowledges : Machine → Type 0
+Acknowledges m = (m .next ≡ Fetch) × (isNone (m .kept .ack) ≡ false)

@@ -10,12 +10,11 @@ use Rattle.laws.specs.Choice.{pick}
 use Rattle.opcodes.specs.Kinds.{isNone}
 use Rattle.machine.specs.declared.record.Position.{Position}
 use Rattle.machine.specs.declared.record.Position.the-variants.{Fetch, Later, Wait, Hold, Halt, Stop}
-use Rattle.machine.specs.declared.record.Machine.{Machine}
 use Rattle.run.specs.Run.{World, eventfulOf, runOf}
 use Rattle.demands.specs.Outside.{intIn}
 use Rattle.demands.specs.Board.{Board, boardOf}
 use Rattle.demands.specs.Own.{own}
-use Rattle.demands.specs.Between.{begins, Between}
+use Rattle.demands.specs.Between.{begins, Between, Acknowledges}
 use Rattle.demands.specs.Legs.{opcodeAt, restartByte}
 use Rattle.demands.specs.Calls.{worldOf, Reached}
 
@@ -39,10 +38,6 @@ opcodeBy Stop b = 0
 
 abbrev pub underWay : Board → ℕ
 underWay b = opcodeBy (b .machine .next) b
-
--- the acknowledge cycle begins
-abbrev pub Acknowledges : Machine → Type 0
-Acknowledges m = (m .next ≡ Fetch) × (isNone (m .kept .ack) ≡ false)
 
 -- the world after j states of a run on the board b
 abbrev pub worldAt : List ℕ → List ℕ → Board → ℕ → World

@@ -10,9 +10,9 @@ use Rattle.machine.specs.Record.{coldOf, withRegs}
 use Rattle.run.specs.Run.{World}
 use Rattle.demands.specs.Board.{Board, boardOf}
 use Rattle.demands.specs.Own.{own}
-use Rattle.demands.specs.Between.{Between}
+use Rattle.demands.specs.Between.{Between, Acknowledges}
 use Rattle.demands.specs.Calls.{Reached}
-use Rattle.demands.specs.Bound.{sumOf, Acknowledges, worldAt, Rises}
+use Rattle.demands.specs.Bound.{sumOf, worldAt, Rises}
 
 -- XTHL, and all else zero
 abbrev pub xthl : Board
