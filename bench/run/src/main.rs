@@ -5,7 +5,7 @@
 //! SIDE is proved or plain, PROGRAM is mix, dcr or int. WAY is
 //! - on: the machine goes on from run to run, and no event comes;
 //! - cold: each run starts from a cold machine, over the memory that the last one left;
-//! - events: as cold, with 1,000 events in each run.
+//! - events: as cold, with 1,000 events in each run; events100: with 100 of them.
 
 mod arithmetic;
 mod plain;
@@ -41,7 +41,7 @@ impl World {
             memory: programs::program(program),
             inputs: (0..=255).collect(),
             outputs: vec![0; 256],
-            schedule: if way == "events" { events() } else { vec![] },
+            schedule: way.strip_prefix("events").map_or(vec![], events),
             trace: vec![0; 8 * STATES as usize],
             done: 0,
         }
@@ -68,14 +68,16 @@ impl World {
     }
 }
 
-/// READY down for two states out of sixteen, 500 times.
-fn events() -> Vec<u8> {
+/// So many events, 1,000 where no number is given: READY goes down and two states later up again, evenly over 8,000 states.
+fn events(number: &str) -> Vec<u8> {
+    let events: u32 = number.parse().unwrap_or(1_000);
+    let apart = 16_000 / events;
     let event = |number: u32, value: u8| {
         let [a, b, c, d] = number.to_le_bytes();
         [a, b, c, d, 0, value]
     };
-    (0..500)
-        .flat_map(|k| [event(16 * k, 0), event(16 * k + 2, 1)])
+    (0..events / 2)
+        .flat_map(|k| [event(apart * k, 0), event(apart * k + 2, 1)])
         .flatten()
         .collect()
 }
@@ -153,7 +155,7 @@ fn main() {
     }
     assert!(words.len() == 5, "bench-run SIDE PROGRAM WAY CALLS");
     let (program, way) = (words[2].as_str(), words[3].as_str());
-    assert!(matches!(way, "on" | "cold" | "events"));
+    assert!(matches!(way, "on" | "cold") || way.starts_with("events"));
     let calls = words[4].parse().expect("a number of calls");
     match words[1].as_str() {
         "proved" => measure(black_box(proved::rounds as Rounds), program, way, calls),
