@@ -19,9 +19,9 @@ use Rattle.run.specs.declared.answer.Verdict.{Verdict}
 use Rattle.run.specs.declared.answer.Verdict.the-variants.{Good, Refused}
 use Rattle.run.specs.declared.answer.Ran.{Ran}
 use Rattle.run.specs.declared.answer.Answer.the-variants.{Done, Stopped}
-use Rattle.run.specs.Check.{andThen, unless, scheduleOf, statesOf, checkOf}
+use Rattle.run.specs.Check.{andThen, unless, scheduleVerdict, statesVerdict, checkOf}
 use Rattle.run.specs.Run.{World, stoppedOf, runOf}
-use Rattle.run.specs.Outcome.{startOf, verdictOf, leftBy, leftOf, ranIn, endedOf, answerBy, answerOf}
+use Rattle.run.specs.Outcome.{startOf, verdictOf, leftBy, leftOf, ranIn, answeredOf, answerBy, answerOf}
 use Rattle.capi.specs.Flat.{putOf}
 use Rattle.capi.specs.Handed.{handedOf}
 use Rattle.capi.specs.Numbers.{stepNumber}
@@ -72,10 +72,10 @@ unless-good false r e = refused e
 
 -- so a run that is not refused has a well-formed machine
 good-well : (m : Machine) (x i o : ℕ) (s : List ℕ) (l n : ℕ) → checkOf m x i o s l n ≡ Good → wellOf m ≡ true
-unfolding checkOf statesOf
+unfolding checkOf statesVerdict
 good-well m x i o s l n e =
     unless-good (wellOf m) IllFormed
-    (sixth-good (unless (eqb x 65536) MemorySize) (unless (eqb i 256 && eqb o 256) PortSize) (scheduleOf s)
+    (sixth-good (unless (eqb x 65536) MemorySize) (unless (eqb i 256 && eqb o 256) PortSize) (scheduleVerdict s)
     (unless (leb n 8192) TooManyStates)
     (unless (leb (8 * n) l) TraceShort)
     (unless (wellOf m) IllFormed)
@@ -89,7 +89,7 @@ ended-record false ran z = refl
 
 left-by : (v : Verdict) (after before : World) (z : List ℕ) → (v ≡ Good → length z ≡ 64) → handedOf z ≡ before .machine
     → handedOf (recordBy (answerBy v after before) z) ≡ leftBy v after before .machine
-unfolding endedOf
+unfolding answeredOf
 left-by Good after before z f e =
     ap handedOf (ended-record (stoppedOf (after .machine .next)) (ranIn after) z)
     ∙ handed-put z (after .machine) (f refl)

@@ -14,7 +14,7 @@ use Rattle.run.specs.declared.answer.Answer.{Answer}
 use Rattle.run.specs.declared.answer.Answer.the-variants.{Done, Stopped}
 use Rattle.run.specs.Answer.{ranOf}
 use Rattle.run.specs.Run.{World, stoppedOf, stateOf, runOf}
-use Rattle.run.specs.Outcome.{startOf, verdictOf, ranIn, endedOf, answerBy, answerOf, Outcome}
+use Rattle.run.specs.Outcome.{startOf, verdictOf, ranIn, answeredOf, answerBy, answerOf, Outcome}
 use Rattle.run.proofs.Laws.{nextOf}
 use Rattle.capi.specs.Handed.{handedOf}
 use Rattle.capi.specs.Numbers.{packedOf}
@@ -39,7 +39,7 @@ ended-ran false ran = cc
 
 few-by : (v : Verdict) (after before : World) (k : ℕ) → after .states ≤ k → before .states ≤ k
     → ranOf (answerBy v after before) .states ≤ k
-unfolding endedOf
+unfolding answeredOf
 few-by Good after before k h l = rw (ended-ran (stoppedOf (after .machine .next)) (ranIn after)) h
 few-by (Refused reason) after before k h l = l
 

@@ -17,9 +17,9 @@ use Rattle.run.specs.declared.answer.Verdict.the-variants as verdict
 use Rattle.run.specs.declared.answer.Ran.{Ran}
 use Rattle.run.specs.declared.answer.Answer.{Answer}
 use Rattle.run.specs.declared.answer.Answer.the-variants.{Done, Stopped, Refused}
-use Rattle.run.specs.Check.{andThen, unless, scheduleOf, statesOf, checkOf}
+use Rattle.run.specs.Check.{andThen, unless, scheduleVerdict, statesVerdict, checkOf}
 use Rattle.run.specs.Run.{World, stoppedOf, runOf}
-use Rattle.run.specs.Outcome.{verdictOf, ranIn, endedOf, answerBy, answerOf}
+use Rattle.run.specs.Outcome.{verdictOf, ranIn, answeredOf, answerBy, answerOf}
 use Rattle.run.proofs.Passed.{check-fit}
 
 -- a good verdict on tests one after the other
@@ -77,7 +77,7 @@ refused q false x r e = absurd (let z : _≡_ {A = ℕ} 0 1 = cc in let no : ⊥
 
 by-verdict : (v : Verdict) (c : Bool) (w x : World) (r : Ran) → answerBy v x w ≡ answering c r
     → (v ≡ verdict.Good) × (stoppedOf (x .machine .next) ≡ c) × (r ≡ ranIn x)
-unfolding endedOf
+unfolding answeredOf
 by-verdict verdict.Good c w x r e =
     let (f, g) = ended-as (stoppedOf (x .machine .next)) c (ranIn x) r e in (refl, f, g)
 by-verdict (verdict.Refused q) c w x r e = refused q c (ranIn w) r e
@@ -99,8 +99,8 @@ module _ (w : World) (inputs s : List ℕ) (n : ℕ) where
   good-room e = check-fit (w .machine) (w .memory) inputs (w .outputs) s (w .trace) n e .room
 
   pub good-well : verdictOf w inputs s n ≡ verdict.Good → T (wellOf (w .machine))
-  unfolding verdictOf checkOf statesOf
+  unfolding verdictOf checkOf statesVerdict
   good-well e =
       true→T (wellOf (w .machine))
-      (record-good (eqb (length (w .memory)) 65536) (eqb (length inputs) 256 && eqb (length (w .outputs)) 256) (scheduleOf s)
+      (record-good (eqb (length (w .memory)) 65536) (eqb (length inputs) 256 && eqb (length (w .outputs)) 256) (scheduleVerdict s)
       (leb n 8192) (leb (8 * n) (length (w .trace))) (wellOf (w .machine)) (leb (w .machine .clock + n) 4294967295) e)

@@ -10,7 +10,7 @@ use Rattle.run.specs.declared.answer.Verdict.{Verdict}
 use Rattle.run.specs.declared.answer.Verdict.the-variants as verdict
 use Rattle.run.specs.Run.{World, stoppedOf, runOf}
 use Rattle.run.specs.Check.{checkOf}
-use Rattle.run.specs.Outcome.{verdictOf, endedOf}
+use Rattle.run.specs.Outcome.{verdictOf, answeredOf}
 use Rattle.run.proofs.Laws.{good-left, good-answer}
 use Rattle.demands.specs.Cards.{Cell, Shown, Card, stored, worldOf, ports, leftBy, rowsOf, Passes}
 
@@ -74,7 +74,7 @@ expected k =
     }
 
 pub passes : (k : Card) → seenIn k ≡ expected k → Passes k
-unfolding endedOf
+unfolding answeredOf
 passes k c =
     let f = ap (λ (x : Seen). x .verdict) c in
     let e = left-is k f in

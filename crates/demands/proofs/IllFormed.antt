@@ -17,7 +17,7 @@ use Rattle.machine.specs.declared.record.Position.the-variants.{Fetch, Later, W
 use Rattle.machine.specs.declared.record.Machine.{Machine}
 use Rattle.machine.specs.Cycle.{cyclesOf}
 use Rattle.machine.specs.Request.{restartOf}
-use Rattle.machine.specs.Well.{fixedOf, listedOf, oneOf, stateOf, thereOf, doneOf, idleOf, ackedOf, readOf, bytesOf, wellOf}
+use Rattle.machine.specs.Well.{fixedOf, listedOf, oneOf, isState, thereOf, doneOf, idleOf, ackedOf, readOf, bytesOf, wellOf}
 use Rattle.demands.specs.IllFormed.{_or_, _and_, Not, WrongBit, Unlisted, Exists, Over, Idle, WrongRestart, Unread, EarlyByte}
 use Rattle.demands.specs.IllFormed.{IllFormed}
 use Rattle.demands.proofs.Decides.{Bars, Shows, always, never, shows-sure, bars-not, shows-so, bars-turned, shows-turned}
@@ -28,8 +28,8 @@ one-shows : (n c : ℕ) → Shows (oneOf n c) ((1 ≤ c) and (c ≤ n))
 unfolding oneOf
 one-shows n c = shows-and (leb 1 c) (leb c n) (shows-leb 1 c) (shows-leb c n)
 
-state-shows : (n c s : ℕ) → Shows (stateOf n c s) ((1 ≤ s) and (s ≤ n) and Not ((c ≡ 1) and (s ≡ 1)))
-unfolding stateOf
+state-shows : (n c s : ℕ) → Shows (isState n c s) ((1 ≤ s) and (s ≤ n) and Not ((c ≡ 1) and (s ≡ 1)))
+unfolding isState
 state-shows n c s =
     shows-and (leb 1 s && leb s n) (not (eqb c 1 && eqb s 1)) (shows-and (leb 1 s) (leb s n) (shows-leb 1 s) (shows-leb s n))
     (shows-turned (eqb c 1 && eqb s 1) (shows-and (eqb c 1) (eqb s 1) (shows-eqb c 1) (shows-eqb s 1)))
@@ -38,7 +38,7 @@ there-shows : (op n : ℕ) (p : Position) → Shows (thereOf op n p) (Exists op 
 unfolding thereOf
 there-shows op n Fetch = always
 there-shows op n (Later c s) =
-    shows-and (oneOf n c) (stateOf (statesOf (codeOf op c)) c s) (one-shows n c) (state-shows (statesOf (codeOf op c)) c s)
+    shows-and (oneOf n c) (isState (statesOf (codeOf op c)) c s) (one-shows n c) (state-shows (statesOf (codeOf op c)) c s)
 there-shows op n (Wait c) = shows-and (oneOf n c) (waitsOf (codeOf op c)) (one-shows n c) (shows-true (waitsOf (codeOf op c)))
 there-shows op n (Hold c) = one-shows n c
 there-shows op n Halt = always

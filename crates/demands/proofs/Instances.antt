@@ -11,7 +11,7 @@ use Rattle.run.specs.declared.answer.Verdict.the-variants.{Good}
 use Rattle.run.specs.declared.answer.Answer.the-variants.{Done, Stopped}
 use Rattle.run.specs.Run.{World, stoppedOf, runOf}
 use Rattle.run.specs.Check.{checkOf}
-use Rattle.run.specs.Outcome.{verdictOf, leftOf, ranIn, endedOf, answerOf}
+use Rattle.run.specs.Outcome.{verdictOf, leftOf, ranIn, answeredOf, answerOf}
 use Rattle.run.proofs.Laws.{good-left, good-answer}
 use Rattle.machine.specs.declared.row.Row.{Row}
 use Rattle.opcodes.specs.Totals.{listedTotal}
@@ -61,7 +61,7 @@ awake = refl
 
 -- the call is answered with 0
 answers : answerOf world ports dip 6 ≡ Done (ranIn (runOf dip ports 6 world))
-unfolding endedOf
+unfolding answeredOf
 answers = good-answer world ports dip 6 passes ∙ rw awake
 
 counts : runOf dip ports 6 world .states ≡ 6
@@ -144,7 +144,7 @@ unfolding everything
 five-stops = refl
 
 five-answers : answerOf five ports [] 5 ≡ Stopped (ranIn (runOf [] ports 5 five))
-unfolding endedOf
+unfolding answeredOf
 five-answers = good-answer five ports [] 5 five-pass ∙ rw five-stops
 
 abbrev stuck : Board

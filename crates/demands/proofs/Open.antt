@@ -22,17 +22,17 @@ use Rattle.schedule.specs.Events as events
 use Rattle.schedule.specs.Levels.{actOf, onceOf, levelsAt}
 use Rattle.run.specs.State.{byteOn, memoryAfter, outputsAfter, putRow}
 use Rattle.run.specs.Run.{stoppedOf, eventfulOf, stateOf, runOf}
-use Rattle.run.specs.Check.{scheduleOf}
+use Rattle.run.specs.Check.{scheduleVerdict}
 use Rattle.run.specs.Check as check
-use Rattle.run.specs.Outcome.{verdictOf, leftOf, endedOf, answerOf}
+use Rattle.run.specs.Outcome.{verdictOf, leftOf, answeredOf, answerOf}
 
 unfoldable pub everything : ℕ
 unfolding parityOf resultOf withCy flagByteOf flagsOf sumOf halfCarryOf addOf subOf cmpOf keepCy inrOf dcrOf daaOf andCarryOf anaOf
     xraOf oraOf rlcOf rrcOf ralOf rarOf cmaOf stcOf cmcOf dadOf arithmeticOf accumulatorOf metOf cycling writesOf kindOf statusOf
     statesOf waitsOf readsOf raisesOf regOf withReg withFlags withResult pairOf withPair popPair pairHighOf pairLowOf keptFor
     keepOf wzOf addressOf givenOf counted dadPair accumulated computed returned jumped called finish effectOf coldOf withLines
-    stepping showing well.fixedOf well.listedOf well.oneOf well.stateOf well.thereOf well.doneOf well.idleOf well.ackedOf
+    stepping showing well.fixedOf well.listedOf well.oneOf well.isState well.thereOf well.doneOf well.idleOf well.ackedOf
     well.readOf well.bytesOf well.wellOf events.numberOf events.listedOf events.followsOf events.all events.orderedOf
-    events.checkedOf actOf onceOf levelsAt byteOn memoryAfter outputsAfter putRow stoppedOf eventfulOf stateOf runOf scheduleOf
-    check.statesOf check.checkOf verdictOf leftOf endedOf answerOf
+    events.checkedOf actOf onceOf levelsAt byteOn memoryAfter outputsAfter putRow stoppedOf eventfulOf stateOf runOf scheduleVerdict
+    check.statesVerdict check.checkOf verdictOf leftOf answeredOf answerOf
 everything = 0

@@ -16,7 +16,7 @@ use Rattle.run.specs.declared.answer.Answer.{Answer}
 use Rattle.run.specs.declared.answer.Answer.the-variants.{Done, Stopped, Refused}
 use Rattle.run.specs.Answer.{refusalNumber}
 use Rattle.run.specs.Run.{World, stoppedOf, runOf}
-use Rattle.run.specs.Outcome.{verdictOf, leftBy, leftOf, ranIn, endedOf, answerBy, answerOf}
+use Rattle.run.specs.Outcome.{verdictOf, leftBy, leftOf, ranIn, answeredOf, answerBy, answerOf}
 use Rattle.run.proofs.Laws.{run-stopped}
 use Rattle.run.proofs.Calls.{run-unique}
 use Rattle.demands.specs.IllFormed.{Not}
@@ -110,7 +110,7 @@ module _ (c : Call) where
   by-verdict : (v : Verdict) → Sound c v
       → Taken c (answerBy v after (before c)) (leftBy v after (before c) .memory) (leftBy v after (before c) .outputs)
       (leftBy v after (before c) .trace)
-  unfolding endedOf
+  unfolding answeredOf
   by-verdict verdict.Good s = going (stoppedOf (after .machine .next)) refl s
   by-verdict (verdict.Refused q) s = refusing q s
 

@@ -12,7 +12,7 @@ use Rattle.saved.specs.Fields.{machineIn, portsIn, memoryIn}
 use Rattle.saved.specs.Check.{saveVerdict, loadVerdict}
 use Rattle.saved.specs.Outcome.{leftBy, savingBy, loadingBy}
 use Rattle.saved.proofs.Unique.{save-unique, load-unique}
-use Rattle.demands.specs.Saving.{First, saveTests, loadTests, SaveGiven, LoadGiven}
+use Rattle.demands.specs.Saving.{FirstOf, saveTests, loadTests, SaveGiven, LoadGiven}
 use Rattle.demands.specs.Saving.{SaveTaken, LoadTaken, SavesOrRefuses}
 use Rattle.demands.proofs.Tested.{same-number, not-zero, Sound, one-first, not-both, save-sound, load-sound}
 
@@ -28,7 +28,7 @@ save-by m x o z verdict.Good n =
 save-by m x o z (verdict.Refused p) f =
     record {
       refused = λ q. (
-        λ e. subst (First (SaveGiven m x o z) saveTests) (same-number p q e) f,
+        λ e. subst (FirstOf (SaveGiven m x o z) saveTests) (same-number p q e) f,
         λ g. ap refusalNumber (one-first (SaveGiven m x o z) saveTests p q f g),
       );
       unchanged = λ q e. refl;
@@ -46,7 +46,7 @@ load-by m s x o verdict.Good n =
 load-by m s x o (verdict.Refused p) f =
     record {
       refused = λ q. (
-        λ e. subst (First (LoadGiven s x o) loadTests) (same-number p q e) f,
+        λ e. subst (FirstOf (LoadGiven s x o) loadTests) (same-number p q e) f,
         λ g. ap refusalNumber (one-first (LoadGiven s x o) loadTests p q f g),
       );
       unchanged = λ q e. (refl, refl, refl);

@@ -24,7 +24,7 @@ use Rattle.saved.specs.Header.{fetchMode, modeOf, betweenOf}
 use Rattle.saved.specs.Fields.{linesIn, inRange}
 use Rattle.saved.specs.Check.{pass, saveVerdict, loadVerdict}
 use Rattle.demands.specs.IllFormed.{Not}
-use Rattle.demands.specs.Saving.{First, None, saveTests, loadTests, HasMode, OutOfRange, SaveGiven, LoadGiven}
+use Rattle.demands.specs.Saving.{FirstOf, None, saveTests, loadTests, HasMode, OutOfRange, SaveGiven, LoadGiven}
 use Rattle.demands.proofs.Decides.{Bars, Shows, always, never, bars-not, bars-leb, bars-and, shows-eqb, shows-true}
 use Rattle.demands.proofs.IllFormed.{bit-bars, line-bars, well-bars}
 
@@ -93,20 +93,20 @@ range-bars s =
 module _ (Given : Refusal → Type 0) where
   abbrev pub Sound : List Refusal → Verdict → Type 0
   Sound ps verdict.Good = None Given ps
-  Sound ps (verdict.Refused q) = First Given ps q
+  Sound ps (verdict.Refused q) = FirstOf Given ps q
 
   step : (p : Refusal) (ps : List Refusal) (b : Bool) (v : Verdict) → Bars b (Given p) → Sound ps v → Sound (p ∷ ps) (pass b p v)
   step p ps true verdict.Good d s = (d .pass refl, s)
   step p ps true (verdict.Refused q) d s = inr (d .pass refl, s)
   step p ps false v d s = inl (refl, d .fail refl)
 
-  pub one-first : (ps : List Refusal) (q q' : Refusal) → First Given ps q → First Given ps q' → q ≡ q'
+  pub one-first : (ps : List Refusal) (q q' : Refusal) → FirstOf Given ps q → FirstOf Given ps q' → q ≡ q'
   one-first [] q q' f g = absurd f
   one-first (p ∷ ps) q q' f g =
       ⊎-elim (λ x. ⊎-elim (λ y. sym (x .0) ∙ y .0) (λ y. absurd (y .0 (x .1))) g)
       (λ x. ⊎-elim (λ y. absurd (x .0 (y .1))) (λ y. one-first ps q q' (x .1) (y .1)) g) f
 
-  pub not-both : (ps : List Refusal) (q : Refusal) → First Given ps q → None Given ps → ⊥
+  pub not-both : (ps : List Refusal) (q : Refusal) → FirstOf Given ps q → None Given ps → ⊥
   not-both [] q f n = f
   not-both (p ∷ ps) q f n = ⊎-elim (λ x. n .0 (x .1)) (λ x. not-both ps q (x .1) (n .1)) f
 

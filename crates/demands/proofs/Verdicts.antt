@@ -19,7 +19,7 @@ use Rattle.run.specs.declared.answer.Refusal.the-variants.{TooManyStates, Trace
 use Rattle.run.specs.declared.answer.Verdict.{Verdict}
 use Rattle.run.specs.declared.answer.Verdict.the-variants.{Good, Refused}
 use Rattle.run.specs.Answer.{refusalNumber}
-use Rattle.run.specs.Check.{andThen, unless, ofSchedule, scheduleOf, statesOf, checkOf}
+use Rattle.run.specs.Check.{andThen, unless, ofSchedule, scheduleVerdict, statesVerdict, checkOf}
 use Rattle.run.specs.Run.{World}
 use Rattle.run.specs.Outcome.{startOf, verdictOf}
 use Rattle.demands.specs.IllFormed.{Not}
@@ -128,7 +128,7 @@ module _ (c : Call) where
   before = startOf (c .machine) (c .memory) (c .outputs) (c .trace)
 
   pub verdict-sound : Sound (verdictOf before (c .inputs) (c .schedule) (c .states))
-  unfolding verdictOf checkOf scheduleOf statesOf checkedOf
+  unfolding verdictOf checkOf scheduleVerdict statesVerdict checkedOf
   verdict-sound =
       let s = c .schedule in
       let n = length s / 6 in

@@ -67,17 +67,17 @@ pub record Unchanged (c : Call) (r : Answer) (x o l : List ℕ) : Type 0 where
   pub trace : l ≡ c .trace
 
 -- the world of a call after j states
-abbrev pub worldAt : Call → ℕ → World
-worldAt c j = runOf (c .schedule) (c .inputs) j (startOf (c .machine) (c .memory) (c .outputs) (c .trace))
+abbrev pub worldIn : Call → ℕ → World
+worldIn c j = runOf (c .schedule) (c .inputs) j (startOf (c .machine) (c .memory) (c .outputs) (c .trace))
 
 -- "the states up to and including the fetch's T3": the last of k states is T3 of a first cycle, and the byte on the bus in it is no
 -- defined opcode
-abbrev pub StopsAt : Call → ℕ → Type 0
-StopsAt c k =
+abbrev pub FetchesUndefined : Call → ℕ → Type 0
+FetchesUndefined c k =
     (j : ℕ)
     × (k ≡ j + 1)
-    × (worldAt c j .machine .next ≡ Later 1 3)
-    × (definedOf (heard (eventfulOf (c .schedule) (worldAt c j .machine)) (worldAt c j .memory) (c .inputs)) ≡ false)
+    × (worldIn c j .machine .next ≡ Later 1 3)
+    × (definedOf (heard (eventfulOf (c .schedule) (worldIn c j .machine)) (worldIn c j .memory) (c .inputs)) ≡ false)
 
 -- what a call may answer, and leave in memory x, output ports o and trace l
 pub record Taken (c : Call) (r : Answer) (x o l : List ℕ) : Type 0 where
@@ -89,7 +89,7 @@ pub record Taken (c : Call) (r : Answer) (x o l : List ℕ) : Type 0 where
   -- states, even when zero are asked"
   pub done : numberOf r ≡ 0 → ranOf r .states ≡ c .states
   pub stopped : numberOf r ≡ 10 → ranOf r .machine .next ≡ Stop
-  pub stops : numberOf r ≡ 10 → Not (c .machine .next ≡ Stop) → StopsAt c (ranOf r .states)
+  pub stops : numberOf r ≡ 10 → Not (c .machine .next ≡ Stop) → FetchesUndefined c (ranOf r .states)
   pub again : c .machine .next ≡ Stop → ((q : Refusal) → Not (Given c q)) → (numberOf r ≡ 10) × Unchanged c r x o l
   -- "Trace bytes past 8 times that count stay as they were"
   pub rest : (i : ℕ) → 8 * ranOf r .states ≤ i → getD l i 0 ≡ getD (c .trace) i 0

@@ -21,9 +21,9 @@ use Rattle.saved.specs.Outcome.{Saves, Loads}
 use Rattle.demands.specs.IllFormed.{_or_, _and_, Not, WrongBit, IllFormed}
 
 -- of the refusals in a list, q is the first whose condition holds; and none is
-abbrev pub First : (Refusal → Type 0) → List Refusal → Refusal → Type 0
-First Given [] q = ⊥
-First Given (p ∷ ps) q = ((p ≡ q) and Given p) or (Not (Given p) and First Given ps q)
+abbrev pub FirstOf : (Refusal → Type 0) → List Refusal → Refusal → Type 0
+FirstOf Given [] q = ⊥
+FirstOf Given (p ∷ ps) q = ((p ≡ q) and Given p) or (Not (Given p) and FirstOf Given ps q)
 
 abbrev pub None : (Refusal → Type 0) → List Refusal → Type 0
 None Given [] = Unit {0}
@@ -83,13 +83,13 @@ handedBack (Refused reason machine) = machine
 
 -- what a save may answer, and leave in the output: a number exactly when it is the first of its table, and then no byte is changed
 pub record SaveTaken (m : Machine) (x o z : List ℕ) (r : Saving) (z' : List ℕ) : Type 0 where
-  pub refused : (q : Refusal) → (savingNumber r ≡ refusalNumber q) ↔ First (SaveGiven m x o z) saveTests q
+  pub refused : (q : Refusal) → (savingNumber r ≡ refusalNumber q) ↔ FirstOf (SaveGiven m x o z) saveTests q
   pub unchanged : (q : Refusal) → savingNumber r ≡ refusalNumber q → z' ≡ z
   pub accepted : (savingNumber r ≡ 0) ↔ None (SaveGiven m x o z) saveTests
 
 -- and a load, in memory x' and output ports o': then the machine is the one that it was handed, too
 pub record LoadTaken (m : Machine) (s x o : List ℕ) (r : Loading) (x' o' : List ℕ) : Type 0 where
-  pub refused : (q : Refusal) → (loadingNumber r ≡ refusalNumber q) ↔ First (LoadGiven s x o) loadTests q
+  pub refused : (q : Refusal) → (loadingNumber r ≡ refusalNumber q) ↔ FirstOf (LoadGiven s x o) loadTests q
   pub unchanged : (q : Refusal) → loadingNumber r ≡ refusalNumber q → (handedBack r ≡ m) × (x' ≡ x) × (o' ≡ o)
   pub accepted : (loadingNumber r ≡ 0) ↔ None (LoadGiven s x o) loadTests
 

@@ -12,7 +12,7 @@ use Rattle.opcodes.specs.Cycles.{codeOf}
 use Rattle.opcodes.specs.Kinds.{statesOf}
 use Rattle.machine.specs.declared.record.Position.the-variants.{Later}
 use Rattle.machine.specs.Cycle.{afterOf}
-use Rattle.machine.specs.Well.{oneOf, stateOf, thereOf}
+use Rattle.machine.specs.Well.{oneOf, isState, thereOf}
 
 -- cycle c is one of n
 pub one-all : (n c : ℕ) → 1 ≤ c → c ≤ n → T (oneOf n c)
@@ -32,7 +32,7 @@ no-first false b e = tt
 module _ (op n c s : ℕ) where
   later-there : 1 ≤ c → c ≤ n → 1 ≤ s → s ≤ statesOf (codeOf op c) → T (not (eqb c 1 && eqb s 1))
       → T (thereOf op n (Later c s))
-  unfolding thereOf oneOf stateOf
+  unfolding thereOf oneOf isState
   later-there a b d e g = search (and-both, le→leb)
 
   pub second-there : 1 ≤ c → c ≤ n → 2 ≤ s → s ≤ statesOf (codeOf op c) → T (thereOf op n (Later c s))
@@ -40,7 +40,7 @@ module _ (op n c s : ℕ) where
       later-there a b (omega arith) e (no-first (eqb c 1) (eqb s 1) (ne-eqb s 1 (λ q. omega arith)))
 
   pub later-each : T (thereOf op n (Later c s)) → (1 ≤ c) × (c ≤ n) × (1 ≤ s) × (s ≤ statesOf (codeOf op c))
-  unfolding thereOf oneOf stateOf
+  unfolding thereOf oneOf isState
   later-each t = search (leb→le, and-left, and-right)
 
 -- T1 of a cycle after the first exists

@@ -1,4 +1,5 @@
--- Document 01's printed sample, computed from the rules: the fourteen states of 3E 05 76 from a cold start.
+-- Document 01's sample program, 3E 05 76 from a cold start: when A changes, computed from the rules. Its printed lines are in
+-- `demands`, of the contract of `run`.
 -- Assumes nothing.
 use Prim.Native.Nat.{ℕ, zero, suc, _+_, _*_}
 use mathlib.Core.Path.{_≡_, refl}
@@ -32,51 +33,13 @@ byteOn (Input p) memory = 0
 byteOn (Output p b) memory = b
 byteOn (Restart b) memory = b
 
--- state code, kind, address and byte of a state
-record Line : Type 0 where
-  state : ℕ
-  kind : ℕ
-  address : ℕ
-  byte : ℕ
-
-line : ℕ → ℕ → ℕ → ℕ → Line
-line s k a b = record { state = s; kind = k; address = a; byte = b }
-
--- the lines of n states of a program that writes nothing
-lines : ℕ → List ℕ → Machine → List Line
-lines zero memory m = []
-lines (suc n) memory m =
-    line (lookOf m .state) (lookOf m .kind) (lookOf m .address) (byteOn (requestOf (lookOf m) m) memory)
-    ∷ lines n memory (stepOf (byteOn (requestOf (lookOf m) m) memory) m)
-
--- what n states of it leave
+-- what n states of a program that writes nothing leave
 after : ℕ → List ℕ → Machine → Machine
 after zero memory m = m
 after (suc n) memory m = after n memory (stepOf (byteOn (requestOf (lookOf m) m) memory) m)
 
 program : List ℕ
 program = 0x3E ∷ 0x05 ∷ 0x76 ∷ []
-
-sample :
-    lines 14 program coldOf
-    ≡ line 1 1 0x0000 0x00
-    ∷ line 2 1 0x0000 0x00
-    ∷ line 3 1 0x0000 0x3E
-    ∷ line 4 1 0x0000 0x00
-    ∷ line 1 2 0x0001 0x00
-    ∷ line 2 2 0x0001 0x00
-    ∷ line 3 2 0x0001 0x05
-    ∷ line 1 1 0x0002 0x00
-    ∷ line 2 1 0x0002 0x00
-    ∷ line 3 1 0x0002 0x76
-    ∷ line 4 1 0x0000 0x00
-    ∷ line 1 9 0x0003 0x00
-    ∷ line 2 9 0x0003 0x00
-    ∷ line 3 9 0x0003 0x00
-    ∷ []
-unfolding byteOn line lines program coldOf cycling metOf writesOf kindOf statusOf statesOf waitsOf readsOf raisesOf regOf withReg
-    pairOf pairHighOf pairLowOf keptFor keepOf wzOf addressOf givenOf finish effectOf stepping showing
-sample = refl
 
 -- "All other registers .. change in the instruction's last state": A, after six states of MVI A and after the seventh
 loaded-last : (after 6 program coldOf .regs .a ≡ 0x00) × (after 7 program coldOf .regs .a ≡ 0x05)

@@ -27,13 +27,13 @@ unfoldable pub oneOf : ℕ → ℕ → Bool
 oneOf n c = leb 1 c && leb c n
 
 -- state s of cycle c is one of its n states; T1 of the first cycle is a fetch and no later state
-unfoldable pub stateOf : ℕ → ℕ → ℕ → Bool
-stateOf n c s = leb 1 s && leb s n && not (eqb c 1 && eqb s 1)
+unfoldable pub isState : ℕ → ℕ → ℕ → Bool
+isState n c s = leb 1 s && leb s n && not (eqb c 1 && eqb s 1)
 
 -- "the cycle or state named doesn't exist for it under the present flags": of an opcode with n cycles
 unfoldable pub thereOf : ℕ → ℕ → Position → Bool
 thereOf op n Fetch = true
-thereOf op n (Later c s) = oneOf n c && stateOf (statesOf (codeOf op c)) c s
+thereOf op n (Later c s) = oneOf n c && isState (statesOf (codeOf op c)) c s
 thereOf op n (Wait c) = oneOf n c && waitsOf (codeOf op c)
 thereOf op n (Hold c) = oneOf n c
 thereOf op n Halt = true

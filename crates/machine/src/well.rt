@@ -2,7 +2,7 @@
 ghost use mathlib.Core.Path.{_≡_};
 ghost use Prim.Native.Nat.{_-_};
 ghost use Rattle.opcodes.specs.Entries.{entries};
-ghost use Rattle.machine.specs.Well.{fixedOf, listedOf, oneOf, stateOf, thereOf, doneOf, idleOf, ackedOf};
+ghost use Rattle.machine.specs.Well.{fixedOf, listedOf, oneOf, isState, thereOf, doneOf, idleOf, ackedOf};
 ghost use Rattle.machine.specs.Well.{readOf, bytesOf, wellOf};
 use crate::cycle::code_at;
 use crate::cycle::cycles;
@@ -39,8 +39,8 @@ fn one_of(n: u8, c: u8) -> bool
 }
 
 // State s of cycle c is one of its n states, and not the first of all.
-fn state_of(n: u8, c: u8, s: u8) -> bool
-    ensures { λ b. ⌜ b ≡ stateOf n c s ⌝ }
+fn is_state(n: u8, c: u8, s: u8) -> bool
+    ensures { λ b. ⌜ b ≡ isState n c s ⌝ }
 {
     (1 <= s) & (s <= n) & !((c == 1) & (s == 1))
 }
@@ -53,7 +53,7 @@ fn there(t: &[u64; 256], op: u8, n: u8, p: Position) -> bool
     match p {
         Position::Fetch => true,
         Position::Later { cycle: c, state: s } => {
-            one_of(n, c) & state_of(states(code_at(t, op, c)), c, s)
+            one_of(n, c) & is_state(states(code_at(t, op, c)), c, s)
         }
         Position::Wait { cycle: c } => one_of(n, c) & waits(code_at(t, op, c)),
         Position::Hold { cycle: c } => one_of(n, c),

@@ -16,7 +16,7 @@ use Rattle.run.specs.declared.answer.Answer.{Answer}
 use Rattle.run.specs.declared.answer.Answer.the-variants.{Done, Stopped}
 use Rattle.run.specs.Run.{World, stoppedOf, runOf}
 use Rattle.run.specs.Answer.{ranOf}
-use Rattle.run.specs.Outcome.{startOf, verdictOf, ranIn, leftBy, leftOf, endedOf, answerBy, answerOf, Outcome}
+use Rattle.run.specs.Outcome.{startOf, verdictOf, ranIn, leftBy, leftOf, answeredOf, answerBy, answerOf, Outcome}
 use Rattle.run.proofs.Turn.{world}
 use Rattle.rounds.specs.Rounds.{roundOf, roundsOf, Rounded}
 
@@ -48,8 +48,8 @@ ended-by : (b : Bool) (r : Ran) → ranOf (pick b (Stopped r) (Done r)) ≡ r
 ended-by true r = refl
 ended-by false r = refl
 
-ran-ended : (r : Ran) → ranOf (endedOf r) ≡ r
-unfolding endedOf
+ran-ended : (r : Ran) → ranOf (answeredOf r) ≡ r
+unfolding answeredOf
 ran-ended r = ended-by (stoppedOf (r .machine .next)) r
 
 ran-by : (v : Verdict) (after before : World) → ranOf (answerBy v after before) ≡ ranIn (leftBy v after before)

@@ -10,7 +10,7 @@ use Rattle.laws.specs.Choice.{pick}
 use Rattle.run.specs.declared.answer.Refusal.{Refusal}
 use Rattle.run.specs.declared.answer.Verdict.the-variants as verdict
 use Rattle.run.specs.declared.answer.Answer.the-variants.{Refused}
-use Rattle.run.specs.Outcome.{verdictOf, leftBy, leftOf, ranIn, endedOf, answerBy, answerOf}
+use Rattle.run.specs.Outcome.{verdictOf, leftBy, leftOf, ranIn, answeredOf, answerBy, answerOf}
 use Rattle.run.specs.Run.{World, stoppedOf, eventfulOf, stateOf, runOf}
 
 suc-less : (n : ℕ) → suc n - 1 ≡ n
@@ -58,7 +58,7 @@ module _ (w : World) (inputs s : List ℕ) (n : ℕ) where
   unfolding leftOf
   good-left e = rw e
 
-  pub good-answer : verdictOf w inputs s n ≡ verdict.Good → answerOf w inputs s n ≡ endedOf (ranIn (runOf s inputs n w))
+  pub good-answer : verdictOf w inputs s n ≡ verdict.Good → answerOf w inputs s n ≡ answeredOf (ranIn (runOf s inputs n w))
   unfolding answerOf
   good-answer e = rw e
 

@@ -20,7 +20,7 @@ use Rattle.run.specs.declared.answer.Refusal.the-variants.{MemorySize, P
 use Rattle.run.specs.declared.answer.Refusal.the-variants.{IllFormed, ClockRange}
 use Rattle.run.specs.declared.answer.Verdict.{Verdict}
 use Rattle.run.specs.declared.answer.Verdict.the-variants.{Good, Refused}
-use Rattle.run.specs.Check.{andThen, unless, ofSchedule, scheduleOf, statesOf, checkOf}
+use Rattle.run.specs.Check.{andThen, unless, ofSchedule, scheduleVerdict, statesVerdict, checkOf}
 use Rattle.run.specs.Going.{Fit}
 
 -- a refusal is not good
@@ -54,7 +54,7 @@ schedule-good checked.Order e = refused e
 -- the arguments of a run that passes the tests are fit for its states
 pub check-fit : (m : Machine) (x i o s l : List ℕ) (n : ℕ)
     → checkOf m (length x) (length i) (length o) s (length l) n ≡ Good → Fit m x i o s l n
-unfolding checkOf scheduleOf statesOf
+unfolding checkOf scheduleVerdict statesVerdict
 check-fit m x i o s l n q =
     let two = eqb (length i) 256 && eqb (length o) 256 in
     let good =

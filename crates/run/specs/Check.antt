@@ -26,8 +26,8 @@ ofSchedule Length = no ScheduleLength
 ofSchedule Value = no EventValue
 ofSchedule Order = no EventOrder
 
-unfoldable pub scheduleOf : List ℕ → Verdict
-scheduleOf s = ofSchedule (checkedOf s)
+unfoldable pub scheduleVerdict : List ℕ → Verdict
+scheduleVerdict s = ofSchedule (checkedOf s)
 
 -- the verdict a, or b where a is good
 abbrev pub andThen : Verdict → Verdict → Verdict
@@ -39,8 +39,8 @@ abbrev pub unless : Bool → Refusal → Verdict
 unless t reason = pick t verdict.Good (no reason)
 
 -- the tests 6 to 9: n states asked of the machine m, with a trace of l bytes
-unfoldable pub statesOf : Machine → ℕ → ℕ → Verdict
-statesOf m l n =
+unfoldable pub statesVerdict : Machine → ℕ → ℕ → Verdict
+statesVerdict m l n =
     andThen (unless (leb n 8192) TooManyStates)
     (andThen (unless (leb (8 * n) l) TraceShort)
     (andThen (unless (wellOf m) IllFormed) (unless (leb (m .clock + n) 4294967295) ClockRange)))
@@ -49,4 +49,4 @@ statesOf m l n =
 unfoldable pub checkOf : Machine → ℕ → ℕ → ℕ → List ℕ → ℕ → ℕ → Verdict
 checkOf m x i o s l n =
     andThen (unless (eqb x 65536) MemorySize)
-    (andThen (unless (eqb i 256 && eqb o 256) PortSize) (andThen (scheduleOf s) (statesOf m l n)))
+    (andThen (unless (eqb i 256 && eqb o 256) PortSize) (andThen (scheduleVerdict s) (statesVerdict m l n)))

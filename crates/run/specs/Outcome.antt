@@ -35,12 +35,12 @@ abbrev pub ranIn : World → Ran
 ranIn w = record { machine = w .machine; states = w .states }
 
 -- done or stopped
-unfoldable pub endedOf : Ran → Answer
-endedOf ran = pick (stoppedOf (ran .machine .next)) (Stopped ran) (Done ran)
+unfoldable pub answeredOf : Ran → Answer
+answeredOf ran = pick (stoppedOf (ran .machine .next)) (Stopped ran) (Done ran)
 
 -- what a run answers
 abbrev pub answerBy : Verdict → World → World → Answer
-answerBy verdict.Good after before = endedOf (ranIn after)
+answerBy verdict.Good after before = answeredOf (ranIn after)
 answerBy (verdict.Refused reason) after before = Refused reason (ranIn before)
 
 unfoldable pub answerOf : World → List ℕ → List ℕ → ℕ → Answer

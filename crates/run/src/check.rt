@@ -1,6 +1,6 @@
 // The tests of a run's arguments.
 ghost use mathlib.Core.Path.{_≡_};
-ghost use Rattle.run.specs.Check.{scheduleOf, statesOf, checkOf};
+ghost use Rattle.run.specs.Check.{scheduleVerdict, statesVerdict, checkOf};
 use crate::answer::Refusal;
 use crate::answer::Verdict;
 use machine::record::Machine;
@@ -15,7 +15,7 @@ fn no(reason: Refusal) -> Verdict
 
 // The tests 3, 4 and 5, of the schedule.
 fn schedule_verdict(s: &[u8]) -> Verdict
-    ensures { λ r. ⌜ r ≡ scheduleOf (now (s .entry)) ⌝ }
+    ensures { λ r. ⌜ r ≡ scheduleVerdict (now (s .entry)) ⌝ }
 {
     let checked = schedule::order::check(s);
     match checked {
@@ -28,7 +28,7 @@ fn schedule_verdict(s: &[u8]) -> Verdict
 
 // The tests 6 to 9: n states asked of the machine m, with a trace of l bytes.
 fn states_verdict(m: Machine, l: usize, n: usize) -> Verdict
-    ensures { λ r. ⌜ r ≡ statesOf m l n ⌝ }
+    ensures { λ r. ⌜ r ≡ statesVerdict m l n ⌝ }
 {
     if 8192 < n {
         return no(Refusal::TooManyStates);

@@ -1,7 +1,7 @@
 // A run: a number of states over lent memory, ports and trace, driven by a schedule.
 ghost use mathlib.Core.Path.{_≡_};
 ghost use Rattle.run.specs.Answer.{ranOf};
-ghost use Rattle.run.specs.Outcome.{endedOf, Outcome};
+ghost use Rattle.run.specs.Outcome.{answeredOf, Outcome};
 use crate::answer::Answer;
 use crate::answer::Ran;
 use crate::answer::Verdict;
@@ -23,8 +23,8 @@ pub struct Asked {
 }
 
 // Done, or stopped where nothing comes next.
-fn ended(ran: Ran) -> Answer
-    ensures { λ r. ⌜ r ≡ endedOf ran ⌝ }
+fn answered(ran: Ran) -> Answer
+    ensures { λ r. ⌜ r ≡ answeredOf ran ⌝ }
 {
     let machine = ran.machine;
     let next = machine.next;
@@ -55,7 +55,7 @@ pub fn run(
     let l = trace.len();
     let verdict = check(machine, x, i, o, s, l, states);
     match verdict {
-        Verdict::Good => ended(go(machine, memory, inputs, outputs, s, trace, states)),
+        Verdict::Good => answered(go(machine, memory, inputs, outputs, s, trace, states)),
         Verdict::Refused { reason: reason } => Answer::Refused {
             reason: reason,
             ran: Ran {

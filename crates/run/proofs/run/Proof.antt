@@ -3,7 +3,7 @@
 use mathlib.Core.Path.{_≡_, sym, ap, _∙_}
 use borrow.Author.Needs.{needs}
 use Rattle.run.specs.Run.{World}
-use Rattle.run.specs.Outcome.{verdictOf, endedOf}
+use Rattle.run.specs.Outcome.{verdictOf, answeredOf}
 use Rattle.run.proofs.Laws.{good-left, good-answer, refused-left, refused-answer}
 use Rattle.run.proofs.Passed.{check-fit}
 use Rattle.run.proofs.run.Statement.{statement}
@@ -22,7 +22,7 @@ returns c =
     let good = sym (told .before .before .check .ensures) ∙ told .enum-told .given .1 in
     let left = sym (good-left _ _ _ _ good) in
     record {
-      answer = c .ended .ensures ∙ ap endedOf (went .go .ensures .ran) ∙ sym (good-answer _ _ _ _ good);
+      answer = c .answered .ensures ∙ ap answeredOf (went .go .ensures .ran) ∙ sym (good-answer _ _ _ _ good);
       memory = went .go .ensures .memory ∙ ap (λ (w : World). w .memory) left;
       outputs = went .go .ensures .outputs ∙ ap (λ (w : World). w .outputs) left;
       trace = went .go .ensures .trace ∙ ap (λ (w : World). w .trace) left;

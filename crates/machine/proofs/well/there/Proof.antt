@@ -15,7 +15,7 @@ there-spec =
     (λ c. simp (c .enum-told .given .1))
     (λ c.
     simp (
-      ← (c .state-of .ensures),
+      ← (c .is-state .ensures),
       ← (c .before .states .ensures),
       ← (c .before .before .code-at .ensures),
       ← (c .before .before .before .one-of .ensures),

@@ -1,12 +1,12 @@
 -- `run::check::schedule_verdict` meets its contract.
 -- Assumes nothing.
-use Rattle.run.specs.Check.{scheduleOf}
+use Rattle.run.specs.Check.{scheduleVerdict}
 use borrow.Author.Needs.{needs}
 use Rattle.run.proofs.check.schedule_verdict.Statement.{statement}
 use Rattle.run.proofs.check.schedule_verdict.Tie as tie
 
 pub schedule-verdict-spec : {M : Type 1} → statement M
-unfolding scheduleOf
+unfolding scheduleVerdict
 schedule-verdict-spec =
     tie.close
     (tie.spec (search needs) (search needs) (search needs) (search needs) (search needs) (search needs) (search needs)

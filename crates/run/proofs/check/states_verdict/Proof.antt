@@ -1,6 +1,6 @@
 -- `run::check::states_verdict` meets its contract.
 -- Assumes nothing.
-use Rattle.run.specs.Check.{statesOf}
+use Rattle.run.specs.Check.{statesVerdict}
 use Prim.Native.Nat.{_+_}
 use native.Mathlib.Omega.{arith}
 use borrow.Author.Tests.{le-leb, lt-leb}
@@ -9,7 +9,7 @@ use Rattle.run.proofs.check.states_verdict.Statement.{statement}
 use Rattle.run.proofs.check.states_verdict.Tie as tie
 
 pub states-verdict-spec : {M : Type 1} → statement M
-unfolding statesOf
+unfolding statesVerdict
 states-verdict-spec =
     tie.close
     (tie.spec (search needs)
