@@ -22,14 +22,15 @@ use Rattle.demands.specs.Rows.{Forced, none, one}
 use Rattle.demands.specs.Board.{Board, boardOf, momentOf}
 use Rattle.demands.specs.Course.{courseOf}
 use Rattle.demands.specs.Legs.{tally, afterwards, opcodeAt, manualAt, courseAt, instruction, Trip, stay, go}
-use Rattle.demands.specs.Calls.{worldOf, givenBack, last}
+use Rattle.demands.specs.Calls.{worldOf, givenBack, last, amid}
 use Rattle.demands.specs.Costs.{Costs}
 use Rattle.demands.proofs.Open.{everything}
 use Rattle.demands.proofs.Cards.{zeros}
 use Rattle.demands.specs.Trace.{rowIn, shownBy}
 use Rattle.demands.specs.Stopping as stopping
 use Rattle.demands.specs.Stopping.{StopsAt}
-use Rattle.demands.proofs.Demands.{states-forced, forced-done}
+use Rattle.demands.specs.Demand2.{Executed}
+use Rattle.demands.proofs.Demands.{instructions-done, forced-done, instruction-ends, states-forced}
 use Rattle.demands.proofs.Tracing.{trace-shows}
 use Rattle.demands.proofs.Stopping.{stop-forced}
 
@@ -110,6 +111,15 @@ two-waits = six-states .only (tally 4 2 0 0) there nop refl .0
 pub nop-done : boardOf (runOf dip ports 6 (worldOf still [])) ≡ there
 unfolding coldOf
 nop-done = forced-done dip ports still there (tally 4 2 0 0) nop (omega arith)
+
+-- and so it does of the instruction by itself, and where it ends amid a longer call
+pub nop-executed : Executed (manualAt E still) (boardOf (runOf dip ports 6 (worldOf still [])))
+unfolding everything outsideOf manualStates listedTotal condition
+nop-executed = instruction-ends dip ports still 2 0 refl refl refl forced (omega arith)
+
+pub nop-amid : Costs E still 6 (boardOf (runOf dip ports 6 world))
+unfolding everything
+nop-amid = instructions-done dip ports still (boardOf (runOf dip ports 6 world)) 6 (amid (replicate 48 0) 6 6 passes (omega arith)) (refl, refl) refl
 
 -- and the trace's third row shows a wait
 third-row : rowIn (leftOf world ports dip 6 .trace) 2 ≡ shownBy dip ports (runOf dip ports 2 world)
