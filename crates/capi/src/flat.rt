@@ -9,7 +9,7 @@ use opcodes::cycle::Acknowledge;
 use run::answer::Answer;
 
 // What comes next: 0 fetch, 1 halt state, 2 stop, 3 later state, 4 wait, 5 hold.
-pub fn next_byte(p: Position) -> u8
+pub(crate) fn next_byte(p: Position) -> u8
     ensures { λ v. ⌜ v ≡ nextByte p ⌝ }
 {
     match p {
@@ -144,7 +144,7 @@ fn flat(m: Machine) -> [u8; 64]
 }
 
 // The machine goes into a record of 64 bytes; any other stays as it is.
-pub fn put(z: &mut [u8], m: Machine)
+pub(crate) fn put(z: &mut [u8], m: Machine)
     ensures { λ _. ⌜ now (z .exit) ≡ putOf (now (z .entry)) m ⌝ }
 {
     if z.len() == 64 {
@@ -155,7 +155,7 @@ pub fn put(z: &mut [u8], m: Machine)
 }
 
 // The machine of a run's answer goes into its record; after a refusal the record stays.
-pub fn put_answer(z: &mut [u8], a: Answer)
+pub(crate) fn put_answer(z: &mut [u8], a: Answer)
     ensures { λ _. ⌜ now (z .exit) ≡ recordBy a (now (z .entry)) ⌝ }
 {
     match a {

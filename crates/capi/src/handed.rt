@@ -9,8 +9,8 @@ use effect::registers::Registers;
 use machine::record::Machine;
 use machine::record::Position;
 use opcodes::cycle::Acknowledge;
+use saved::fields::clock_in;
 use saved::fields::lines_in;
-use saved::fields::long_at;
 use saved::fields::registers_in;
 
 // What comes next, by its byte, with the cycle c and the state s.
@@ -63,7 +63,7 @@ fn read(z: &[u8]) -> Machine
         regs: registers_in(z),
         kept: kept(z),
         lines: lines_in(z),
-        clock: long_at(z, 14),
+        clock: clock_in(z),
         next: position(z[13], z[24], z[25]),
     }
 }
@@ -116,7 +116,7 @@ fn broken() -> Machine
 }
 
 // The machine of a record, and one that is ill formed where the record is malformed.
-pub fn handed(z: &[u8]) -> Machine
+pub(crate) fn handed(z: &[u8]) -> Machine
     ensures { λ m. ⌜ m ≡ handedOf (now (z .entry)) ⌝ }
 {
     if z.len() == 64 {

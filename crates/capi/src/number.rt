@@ -20,7 +20,7 @@ const CLOCK_RANGE: u8 = 9;
 const STOPPED: u8 = 10;
 
 // A request: which it is, times 2^24, the byte, times 2^16, and the address or the port.
-pub fn request_number(q: Request) -> u32
+pub(crate) fn request_number(q: Request) -> u32
     ensures { λ r. ⌜ r ≡ requestNumber q ⌝ }
 {
     match q {
@@ -37,7 +37,7 @@ pub fn request_number(q: Request) -> u32
 }
 
 // The tests of one state: 8, 9 and 10, as a run of one state has them.
-pub fn step_number(m: Machine) -> u8
+pub(crate) fn step_number(m: Machine) -> u8
     ensures { λ r. ⌜ r ≡ stepNumber m ⌝ }
 {
     let next = m.next;
@@ -54,7 +54,7 @@ pub fn step_number(m: Machine) -> u8
 }
 
 // A run's answer: its number, and 256 times the states done.
-pub fn packed(a: Answer) -> u64
+pub(crate) fn packed(a: Answer) -> u64
     requires { ⌜ ranOf a .states ≤ 4294967295 ⌝ }
     ensures { λ r. ⌜ r ≡ packedOf a ⌝ }
 {

@@ -5,7 +5,7 @@ ghost use Rattle.run.specs.State.{byteOn, memoryAfter, outputsAfter};
 use machine::request::Request;
 
 // The byte on the bus: read, written, or 0 where there is none.
-pub fn byte_on(q: Request, memory: &[u8], inputs: &[u8]) -> u8
+pub(crate) fn byte_on(q: Request, memory: &[u8], inputs: &[u8]) -> u8
     requires { ⌜ (length (now memory) ≡ 65536) × (length (now inputs) ≡ 256) ⌝ }
     ensures { λ v. ⌜ v ≡ byteOn q (now (memory .entry)) (now (inputs .entry)) ⌝ }
 {
@@ -23,7 +23,7 @@ pub fn byte_on(q: Request, memory: &[u8], inputs: &[u8]) -> u8
 }
 
 // A write goes to memory.
-pub fn write_memory(q: Request, memory: &mut [u8])
+pub(crate) fn write_memory(q: Request, memory: &mut [u8])
     requires { ⌜ length (now memory) ≡ 65536 ⌝ }
     ensures { λ _. ⌜ now (memory .exit) ≡ memoryAfter q (now (memory .entry)) ⌝ }
 {
@@ -44,7 +44,7 @@ pub fn write_memory(q: Request, memory: &mut [u8])
 }
 
 // An output goes to its port.
-pub fn write_output(q: Request, outputs: &mut [u8])
+pub(crate) fn write_output(q: Request, outputs: &mut [u8])
     requires { ⌜ length (now outputs) ≡ 256 ⌝ }
     ensures { λ _. ⌜ now (outputs .exit) ≡ outputsAfter q (now (outputs .entry)) ⌝ }
 {

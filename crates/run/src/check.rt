@@ -49,7 +49,15 @@ fn states_verdict(m: Machine, l: usize, n: usize) -> Verdict
 
 // The tests 1 to 9, in that order: memory of x bytes, input ports of i, output ports of o, the schedule s, a trace of l bytes,
 // n states asked.
-pub fn check(m: Machine, x: usize, i: usize, o: usize, s: &[u8], l: usize, n: usize) -> Verdict
+pub(crate) fn check(
+    m: Machine,
+    x: usize,
+    i: usize,
+    o: usize,
+    s: &[u8],
+    l: usize,
+    n: usize,
+) -> Verdict
     ensures { λ r. ⌜ r ≡ checkOf m x i o (now (s .entry)) l n ⌝ }
 {
     if x != 65536 {

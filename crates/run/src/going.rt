@@ -9,7 +9,7 @@ use machine::record::Position;
 use schedule::levels::levels_at;
 
 // Nothing comes next.
-pub fn stopped(p: Position) -> bool
+pub(crate) fn stopped(p: Position) -> bool
     ensures { λ b. ⌜ b ≡ stoppedOf p ⌝ }
 {
     match p {
@@ -23,7 +23,7 @@ pub fn stopped(p: Position) -> bool
 }
 
 // n states, or fewer where the machine stops.
-pub fn go(
+pub(crate) fn go(
     m: Machine,
     memory: &mut [u8],
     inputs: &[u8],

@@ -26,7 +26,7 @@ fn put_row(trace: &mut [u8], at: usize, r: Row)
 }
 
 // One state of the machine m: the byte on the bus, the write, the row, the step.
-pub fn state(
+pub(crate) fn state(
     m: Machine,
     memory: &mut [u8],
     inputs: &[u8],

@@ -15,7 +15,7 @@ fn no(reason: Refusal) -> Verdict
 }
 
 // Saving's tests in their order: 1, 2, 8, 11, 14; memory of x bytes, output ports of o, an output of l.
-pub fn save_verdict(m: Machine, x: usize, o: usize, l: usize) -> Verdict
+pub(crate) fn save_verdict(m: Machine, x: usize, o: usize, l: usize) -> Verdict
     ensures { λ r. ⌜ r ≡ saveVerdict m x o l ⌝ }
 {
     if x != 65536 {
@@ -37,7 +37,7 @@ pub fn save_verdict(m: Machine, x: usize, o: usize, l: usize) -> Verdict
 }
 
 // Loading's tests in their order: 12, 13, 1, 2.
-pub fn load_verdict(s: &[u8], x: usize, o: usize) -> Verdict
+pub(crate) fn load_verdict(s: &[u8], x: usize, o: usize) -> Verdict
     ensures { λ r. ⌜ r ≡ loadVerdict (now (s .entry)) x o ⌝ }
 {
     if s.len() != 65816 {

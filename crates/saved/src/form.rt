@@ -18,7 +18,7 @@ fn put(out: &mut [u8], a: usize, s: &[u8])
 }
 
 // The header, the output ports, memory.
-pub fn write(m: Machine, memory: &[u8], outputs: &[u8], out: &mut [u8])
+pub(crate) fn write(m: Machine, memory: &[u8], outputs: &[u8], out: &mut [u8])
     requires { ⌜ (length (now memory) ≡ 65536) × (length (now outputs) ≡ 256) × (length (now out) ≡ 65816) ⌝ }
     ensures { λ _. ⌜ now (out .exit) ≡ savedOf m (now (outputs .entry)) (now (memory .entry)) ⌝ }
 {
@@ -29,7 +29,7 @@ pub fn write(m: Machine, memory: &[u8], outputs: &[u8], out: &mut [u8])
 }
 
 // The output ports and memory of the form s.
-pub fn read(s: &[u8], memory: &mut [u8], outputs: &mut [u8])
+pub(crate) fn read(s: &[u8], memory: &mut [u8], outputs: &mut [u8])
     requires { ⌜ (length (now s) ≡ 65816) × (length (now memory) ≡ 65536) × (length (now outputs) ≡ 256) ⌝ }
     ensures { λ _. ⌜ (now (memory .exit) ≡ memoryIn (now (s .entry))) × (now (outputs .exit) ≡ portsIn (now (s .entry))) ⌝ }
 {

@@ -37,7 +37,7 @@ fn mode(k: Kept, p: Position) -> u8
 }
 
 // Whether the machine is between instructions.
-pub fn between(m: Machine) -> bool
+pub(crate) fn between(m: Machine) -> bool
     ensures { λ b. ⌜ b ≡ betweenOf m ⌝ }
 {
     let kept = m.kept;
@@ -46,7 +46,7 @@ pub fn between(m: Machine) -> bool
 }
 
 // The header of a machine that is between instructions.
-pub fn header(m: Machine) -> [u8; 24]
+pub(crate) fn header(m: Machine) -> [u8; 24]
     ensures { λ h. ⌜ h ≡ headerOf m ⌝ }
 {
     let regs = m.regs;

@@ -15,7 +15,7 @@ read-spec =
     let parts = c .before .before .before .before in
     simp (
       ← (c .position .ensures),
-      ← (parts .long-at .ensures),
+      ← (parts .clock-in .ensures),
       ← (parts .before .lines-in .ensures),
       ← (parts .before .before .kept .ensures),
       ← (parts .before .before .before .registers-in .ensures),

@@ -13,7 +13,7 @@ machine-in-spec =
     (λ c.
     simp (
       ← (c .position .ensures),
-      ← (c .before .before .long-at .ensures),
+      ← (c .before .before .clock-in .ensures),
       ← (c .before .before .before .lines-in .ensures),
       ← (c .before .before .before .before .kept-for .ensures),
       ← (c .before .before .before .before .before .registers-in .ensures),
