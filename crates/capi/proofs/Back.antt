@@ -18,8 +18,8 @@ use Rattle.machine.specs.Well.{fixedOf, wellOf}
 use Rattle.schedule.specs.Events.{all}
 use Rattle.saved.specs.Fields.{wordAt, longAt, registersIn, linesIn}
 use Rattle.saved.proofs.Numbers.{word-back, long-back}
-use Rattle.capi.specs.Flat.{nextByte, cycleByte, stateByte, acknowledgeByte, flatOf, putOf}
-use Rattle.capi.specs.Handed.{positionIn, acknowledgeIn, keptIn, readOf, placeFits, formedOf, brokenOf, handedOf}
+use Rattle.capi.specs.Flat.{nextByte, cycleByte, stateByte, acknowledgeByte, flatOf, recordWith}
+use Rattle.capi.specs.Handed.{positionIn, acknowledgeIn, keptIn, recordedOf, placeFits, formedOf, brokenOf, handedOf}
 
 -- what comes next, the acknowledge and INTE, from their bytes
 position-back : (p : Position) → positionIn (nextByte p) (cycleByte p) (stateByte p) ≡ p
@@ -41,8 +41,8 @@ bit-back : (b : Bool) → eqb (bitOf b) 1 ≡ b
 bit-back true = refl
 bit-back false = refl
 
-pub read-flat : (m : Machine) → readOf (flatOf m) ≡ m
-unfolding readOf flatOf keptIn registersIn linesIn wordAt longAt
+pub read-flat : (m : Machine) → recordedOf (flatOf m) ≡ m
+unfolding recordedOf flatOf keptIn registersIn linesIn wordAt longAt
 read-flat m =
     λ i.
     record {
@@ -118,9 +118,9 @@ unfolding handedOf
 handed-flat m = rw (flat-size m, flat-formed m) (read-flat m)
 
 -- so a record into which a machine was put holds it
-pub handed-put : (z : List ℕ) (m : Machine) → length z ≡ 64 → handedOf (putOf z m) ≡ m
-unfolding putOf
-handed-put z m e = rw (eq-eqb (length z) 64 e) (handed-flat m)
+pub handed-record : (z : List ℕ) (m : Machine) → length z ≡ 64 → handedOf (recordWith z m) ≡ m
+unfolding recordWith
+handed-record z m e = rw (eq-eqb (length z) 64 e) (handed-flat m)
 
 -- what is no record, or has a byte outside its range, is ill formed
 broken-ill : wellOf brokenOf ≡ false

@@ -22,11 +22,11 @@ use Rattle.run.specs.declared.answer.Answer.the-variants.{Done, Stopped}
 use Rattle.run.specs.Check.{andThen, unless, scheduleVerdict, statesVerdict, checkOf}
 use Rattle.run.specs.Run.{World, stoppedOf, runOf}
 use Rattle.run.specs.Outcome.{startOf, verdictOf, leftBy, leftOf, ranIn, answeredOf, answerBy, answerOf}
-use Rattle.capi.specs.Flat.{putOf}
+use Rattle.capi.specs.Flat.{recordWith}
 use Rattle.capi.specs.Handed.{handedOf}
 use Rattle.capi.specs.Numbers.{stepNumber}
 use Rattle.capi.specs.Calls.{recordBy, ColdCall, StepCall, RunCall}
-use Rattle.capi.proofs.Back.{handed-put, malformed-ill}
+use Rattle.capi.proofs.Back.{handed-record, malformed-ill}
 
 -- a well-formed record has 64 bytes
 well-size : (z : List ℕ) → wellOf (handedOf z) ≡ true → length z ≡ 64
@@ -37,7 +37,7 @@ well-size z w = sized (eqb (length z) 64) refl
     sized false e = absurd (false≢true (sym (malformed-ill z (rw e)) ∙ w))
 
 pub cold-left : (z : List ℕ) (r : ℕ) (z' : List ℕ) → length z ≡ 64 → ColdCall z r z' → handedOf z' ≡ coldOf
-cold-left z r z' e c = ap handedOf (c .machine) ∙ handed-put z coldOf e
+cold-left z r z' e c = ap handedOf (c .machine) ∙ handed-record z coldOf e
 
 -- a step that is not refused has a well-formed record
 step-well : (b : Bool) (n : ℕ) → pick b n 8 ≡ 0 → b ≡ true
@@ -48,9 +48,9 @@ pub step-left : (z : List ℕ) (v r : ℕ) (z' : List ℕ) → StepCall z v r z'
 unfolding stepNumber
 step-left z v r z' c e =
     let none : stepNumber (handedOf z) ≡ 0 = sym (c .answer) ∙ e in
-    let left : z' ≡ putOf z (stepOf v (handedOf z)) = rw none at (c .machine) in
+    let left : z' ≡ recordWith z (stepOf v (handedOf z)) = rw none at (c .machine) in
     ap handedOf left
-    ∙ handed-put z (stepOf v (handedOf z)) (well-size z (step-well (wellOf (handedOf z)) _ none))
+    ∙ handed-record z (stepOf v (handedOf z)) (well-size z (step-well (wellOf (handedOf z)) _ none))
 
 -- of tests one after the other that are good, each is: the sixth is 8's
 refused : {A : Type 0} {r : Refusal} → Refused r ≡ Good → A
@@ -83,7 +83,7 @@ good-well m x i o s l n e =
     e)
 
 -- done or stopped, the machine goes into the record
-ended-record : (b : Bool) (ran : Ran) (z : List ℕ) → recordBy (pick b (Stopped ran) (Done ran)) z ≡ putOf z (ran .machine)
+ended-record : (b : Bool) (ran : Ran) (z : List ℕ) → recordBy (pick b (Stopped ran) (Done ran)) z ≡ recordWith z (ran .machine)
 ended-record true ran z = refl
 ended-record false ran z = refl
 
@@ -92,7 +92,7 @@ left-by : (v : Verdict) (after before : World) (z : List ℕ) → (v ≡ Good �
 unfolding answeredOf
 left-by Good after before z f e =
     ap handedOf (ended-record (stoppedOf (after .machine .next)) (ranIn after) z)
-    ∙ handed-put z (after .machine) (f refl)
+    ∙ handed-record z (after .machine) (f refl)
 left-by (Refused reason) after before z f e = e
 
 pub run-left : (z : List ℕ) (n : ℕ) (x i o s l : List ℕ) (r : ℕ) (z' x' o' l' : List ℕ) → RunCall z n x i o s l r z' x' o' l'

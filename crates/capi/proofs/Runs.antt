@@ -17,7 +17,7 @@ use Rattle.run.specs.Run.{World, stoppedOf, stateOf, runOf}
 use Rattle.run.specs.Outcome.{startOf, verdictOf, ranIn, answeredOf, answerBy, answerOf, Outcome}
 use Rattle.run.proofs.Laws.{nextOf}
 use Rattle.capi.specs.Handed.{handedOf}
-use Rattle.capi.specs.Numbers.{packedOf}
+use Rattle.capi.specs.Numbers.{runNumber}
 use Rattle.capi.specs.Calls.{recordBy, RunCall}
 
 -- n states from the world w count n at the most
@@ -53,10 +53,10 @@ answer-few m x i o s l n a x' o' l' out =
     (few-by (verdictOf w i s n) (runOf s i n w) w n (omega (arith, run-few s i n w)) (omega arith))
 
 pub run-call : (z x i o s l : List ℕ) (n : ℕ) (m : Machine) (a : Answer) (r : ℕ) (z' x' o' l' : List ℕ) → m ≡ handedOf z
-    → Outcome m x i o s l n a x' o' l' → z' ≡ recordBy a z → r ≡ packedOf a → RunCall z n x i o s l r z' x' o' l'
+    → Outcome m x i o s l n a x' o' l' → z' ≡ recordBy a z → r ≡ runNumber a → RunCall z n x i o s l r z' x' o' l'
 run-call z x i o s l n m a r z' x' o' l' h out p q =
     record {
-      answer = q ∙ ap packedOf (out .answer) ∙ rw h;
+      answer = q ∙ ap runNumber (out .answer) ∙ rw h;
       machine = p ∙ ap (λ (b : Answer). recordBy b z) (out .answer) ∙ rw h;
       memory = out .memory ∙ rw h;
       outputs = out .outputs ∙ rw h;

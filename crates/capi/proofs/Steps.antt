@@ -9,7 +9,7 @@ use Rattle.machine.specs.declared.record.Position.the-variants.{Fetch, Later, W
 use Rattle.machine.specs.declared.record.Machine.{Machine}
 use Rattle.machine.specs.Step.{stepOf}
 use Rattle.run.specs.Run.{stoppedOf}
-use Rattle.capi.specs.Flat.{nextByte, putOf}
+use Rattle.capi.specs.Flat.{nextByte, recordWith}
 use Rattle.capi.specs.Handed.{handedOf}
 use Rattle.capi.specs.Numbers.{stepNumber}
 use Rattle.capi.specs.Calls.{StepCall}
@@ -25,7 +25,7 @@ stop-byte Halt = refl
 stop-byte Stop = refl
 
 module _ (z : List ℕ) (v r : ℕ) (m : Machine) (handed : m ≡ handedOf z) (number : r ≡ stepNumber m) where
-  pub step-done : (n : Machine) (z' : List ℕ) → r ≡ 0 → n ≡ stepOf v m → z' ≡ putOf z n → StepCall z v r z'
+  pub step-done : (n : Machine) (z' : List ℕ) → r ≡ 0 → n ≡ stepOf v m → z' ≡ recordWith z n → StepCall z v r z'
   step-done n z' e s p =
       record {
         answer = number ∙ ap stepNumber handed;

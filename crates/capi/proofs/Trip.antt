@@ -22,7 +22,7 @@ use Rattle.saved.specs.Outcome.{savingBy, loadingBy, Saves, Loads}
 use Rattle.saved.proofs.Trip.{saved-loads}
 use Rattle.capi.specs.Flat.{flatOf}
 use Rattle.capi.specs.Handed.{handedOf}
-use Rattle.capi.specs.Calls.{SaveCall, loadTests, LoadCall}
+use Rattle.capi.specs.Calls.{SaveCall, loadCallVerdict, LoadCall}
 use Rattle.capi.proofs.Loads.{load-number, loaded-left}
 use Rattle.capi.proofs.Back.{handed-flat}
 
@@ -49,7 +49,7 @@ saved-by z x o f f' c =
 -- a load through C into a record is one of `load`, whatever machine that is handed
 loaded-by : (k : Machine) (z s x o : List ℕ) (r : ℕ) (z' x' o' : List ℕ) → length z ≡ 64 → LoadCall z s x o r z' x' o'
     → Loads k s x o (loadingBy (loadVerdict s (length x) (length o)) (machineIn s) k) x' o'
-unfolding loadTests
+unfolding loadCallVerdict
 loaded-by k z s x o r z' x' o' e c =
     let yes = eq-eqb (length z) 64 e in
     record { answer = refl; memory = rw yes at (c .memory); outputs = rw yes at (c .outputs) }
@@ -57,7 +57,7 @@ loaded-by k z s x o r z' x' o' e c =
 -- what a load through C returns and leaves in the record, where `load` gave the machine m
 loaded-call : (m k : Machine) (z s x o : List ℕ) (r : ℕ) (z' x' o' : List ℕ) → length z ≡ 64 → LoadCall z s x o r z' x' o'
     → loadingBy (loadVerdict s (length x) (length o)) (machineIn s) k ≡ Loaded m → (r ≡ 0) × (z' ≡ flatOf m)
-unfolding loadTests
+unfolding loadCallVerdict
 loaded-call m k z s x o r z' x' o' e c l =
     let yes = eq-eqb (length z) 64 e in
     let v = loadVerdict s (length x) (length o) in (

@@ -20,15 +20,15 @@ use Rattle.saved.specs.Header.{savedOf}
 use Rattle.saved.specs.Fields.{machineIn, portsIn, memoryIn}
 use Rattle.saved.specs.Answer.{savingNumber}
 use Rattle.saved.specs.Check.{pass, saveVerdict, loadVerdict}
-use Rattle.saved.specs.Outcome.{leftBy, savingBy}
-use Rattle.capi.specs.Flat.{flatOf, putOf}
+use Rattle.saved.specs.Outcome.{filledBy, savingBy}
+use Rattle.capi.specs.Flat.{flatOf, recordWith}
 use Rattle.capi.specs.Handed.{handedOf}
-use Rattle.capi.specs.Numbers.{requestNumber, stepNumber, packedOf}
+use Rattle.capi.specs.Numbers.{requestNumber, stepNumber, runNumber}
 
 -- a cold machine: 0, or 8 where z is no record
 pub record ColdCall (z : List ℕ) (r : ℕ) (z' : List ℕ) : Type 0 where
   pub answer : r ≡ pick (eqb (length z) 64) 0 8
-  pub machine : z' ≡ putOf z coldOf
+  pub machine : z' ≡ recordWith z coldOf
 
 -- what the state that comes next asks of the bus
 unfoldable pub requestCall : List ℕ → ℕ
@@ -37,17 +37,17 @@ requestCall z = requestNumber (requestOf (lookOf (handedOf z)) (handedOf z))
 -- one state with the byte v on the bus: where the answer is not 0, nothing changes
 pub record StepCall (z : List ℕ) (v r : ℕ) (z' : List ℕ) : Type 0 where
   pub answer : r ≡ stepNumber (handedOf z)
-  pub machine : z' ≡ pick (eqb (stepNumber (handedOf z)) 0) (putOf z (stepOf v (handedOf z))) z
+  pub machine : z' ≡ pick (eqb (stepNumber (handedOf z)) 0) (recordWith z (stepOf v (handedOf z))) z
 
 -- the record z after a run's answer
 abbrev pub recordBy : Answer → List ℕ → List ℕ
-recordBy (Done ran) z = putOf z (ran .machine)
-recordBy (Stopped ran) z = putOf z (ran .machine)
+recordBy (Done ran) z = recordWith z (ran .machine)
+recordBy (Stopped ran) z = recordWith z (ran .machine)
 recordBy (Refused reason ran) z = z
 
 -- a run of n states over memory x, input ports i, output ports o, the schedule s and the trace l
 pub record RunCall (z : List ℕ) (n : ℕ) (x i o s l : List ℕ) (r : ℕ) (z' x' o' l' : List ℕ) : Type 0 where
-  pub answer : r ≡ packedOf (answerOf (startOf (handedOf z) x o l) i s n)
+  pub answer : r ≡ runNumber (answerOf (startOf (handedOf z) x o l) i s n)
   pub machine : z' ≡ recordBy (answerOf (startOf (handedOf z) x o l) i s n) z
   pub memory : x' ≡ leftOf (startOf (handedOf z) x o l) i s n .memory
   pub outputs : o' ≡ leftOf (startOf (handedOf z) x o l) i s n .outputs
@@ -56,15 +56,15 @@ pub record RunCall (z : List ℕ) (n : ℕ) (x i o s l : List ℕ) (r : ℕ) (z'
 -- saving with memory x and output ports o into the output f
 pub record SaveCall (z x o f : List ℕ) (r : ℕ) (f' : List ℕ) : Type 0 where
   pub answer : r ≡ savingNumber (savingBy (saveVerdict (handedOf z) (length x) (length o) (length f)))
-  pub out : f' ≡ leftBy (saveVerdict (handedOf z) (length x) (length o) (length f)) (savedOf (handedOf z) o x) f
+  pub out : f' ≡ filledBy (saveVerdict (handedOf z) (length x) (length o) (length f)) (savedOf (handedOf z) o x) f
 
 -- loading's tests: 8 where z is no record, "12, 13, then 1 and 2"; what the record holds plays no part
-unfoldable pub loadTests : List ℕ → List ℕ → List ℕ → List ℕ → Verdict
-loadTests z s x o = pass (eqb (length z) 64) IllFormed (loadVerdict s (length x) (length o))
+unfoldable pub loadCallVerdict : List ℕ → List ℕ → List ℕ → List ℕ → Verdict
+loadCallVerdict z s x o = pass (eqb (length z) 64) IllFormed (loadVerdict s (length x) (length o))
 
 -- loading the saved form s into memory x and output ports o
 pub record LoadCall (z s x o : List ℕ) (r : ℕ) (z' x' o' : List ℕ) : Type 0 where
-  pub answer : r ≡ savingNumber (savingBy (loadTests z s x o))
-  pub machine : z' ≡ leftBy (loadTests z s x o) (flatOf (machineIn s)) z
-  pub memory : x' ≡ leftBy (loadTests z s x o) (memoryIn s) x
-  pub outputs : o' ≡ leftBy (loadTests z s x o) (portsIn s) o
+  pub answer : r ≡ savingNumber (savingBy (loadCallVerdict z s x o))
+  pub machine : z' ≡ filledBy (loadCallVerdict z s x o) (flatOf (machineIn s)) z
+  pub memory : x' ≡ filledBy (loadCallVerdict z s x o) (memoryIn s) x
+  pub outputs : o' ≡ filledBy (loadCallVerdict z s x o) (portsIn s) o

@@ -11,7 +11,7 @@ use Rattle.effect.specs.declared.kept.Kept.{Kept}
 use Rattle.machine.specs.declared.record.Position.{Position}
 use Rattle.machine.specs.declared.record.Position.the-variants.{Fetch, Later, Wait, Hold, Halt, Stop}
 use Rattle.machine.specs.declared.record.Machine.{Machine}
-use Rattle.saved.specs.Header.{long, registerBytes, lineBytes}
+use Rattle.saved.specs.Header.{fourBytes, registerBytes, lineBytes}
 
 -- what comes next, its cycle and its state, 0 where none is named
 unfoldable pub nextByte : Position → ℕ
@@ -58,12 +58,12 @@ unfoldable pub flatOf : Machine → List ℕ
 flatOf m =
     registerBytes (m .regs)
     ++ nextByte (m .next)
-    ∷ (long (m .clock)
+    ∷ (fourBytes (m .clock)
     ++ lineBytes (m .lines)
     ++ cycleByte (m .next)
     ∷ stateByte (m .next)
     ∷ (keptBytes (m .kept) ++ noughts 31))
 
 -- the record z with the machine m in it: a list that is no record stays
-unfoldable pub putOf : List ℕ → Machine → List ℕ
-putOf z m = pick (eqb (length z) 64) (flatOf m) z
+unfoldable pub recordWith : List ℕ → Machine → List ℕ
+recordWith z m = pick (eqb (length z) 64) (flatOf m) z

@@ -37,8 +37,8 @@ keptIn z =
     }
 
 -- the machine that the bytes of z say
-unfoldable pub readOf : List ℕ → Machine
-readOf z =
+unfoldable pub recordedOf : List ℕ → Machine
+recordedOf z =
     record {
       regs = registersIn z;
       kept = keptIn z;
@@ -74,4 +74,4 @@ brokenOf =
 
 -- the machine of the record z; of a malformed one, a machine that is ill formed
 unfoldable pub handedOf : List ℕ → Machine
-handedOf z = pick (eqb (length z) 64 && formedOf z) (readOf z) brokenOf
+handedOf z = pick (eqb (length z) 64 && formedOf z) (recordedOf z) brokenOf

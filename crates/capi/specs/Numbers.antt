@@ -25,5 +25,5 @@ unfoldable pub stepNumber : Machine → ℕ
 stepNumber m = pick (wellOf m) (pick (eqb (m .clock) 4294967295) 9 (pick (stoppedOf (m .next)) 10 0)) 8
 
 -- a run's answer: its number, and 256 times the states done
-unfoldable pub packedOf : Answer → ℕ
-packedOf a = numberOf a + 256 * ranOf a .states
+unfoldable pub runNumber : Answer → ℕ
+runNumber a = numberOf a + 256 * ranOf a .states

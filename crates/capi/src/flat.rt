@@ -1,7 +1,7 @@
 // A machine as the 64 bytes of a record.
 ghost use mathlib.Core.Path.{_≡_};
 ghost use Rattle.capi.specs.Calls.{recordBy};
-ghost use Rattle.capi.specs.Flat.{nextByte, cycleByte, stateByte, acknowledgeByte, flatOf, putOf};
+ghost use Rattle.capi.specs.Flat.{nextByte, cycleByte, stateByte, acknowledgeByte, flatOf, recordWith};
 use alu::flags::bit;
 use machine::record::Machine;
 use machine::record::Position;
@@ -144,8 +144,8 @@ fn flat(m: Machine) -> [u8; 64]
 }
 
 // The machine goes into a record of 64 bytes; any other stays as it is.
-pub(crate) fn put(z: &mut [u8], m: Machine)
-    ensures { λ _. ⌜ now (z .exit) ≡ putOf (now (z .entry)) m ⌝ }
+pub(crate) fn record_with(z: &mut [u8], m: Machine)
+    ensures { λ _. ⌜ now (z .exit) ≡ recordWith (now (z .entry)) m ⌝ }
 {
     if z.len() == 64 {
         let h = flat(m);
@@ -160,11 +160,11 @@ pub(crate) fn put_answer(z: &mut [u8], a: Answer)
 {
     match a {
         Answer::Done { ran: r } => {
-            put(z, r.machine);
+            record_with(z, r.machine);
             return;
         }
         Answer::Stopped { ran: r } => {
-            put(z, r.machine);
+            record_with(z, r.machine);
             return;
         }
         Answer::Refused { reason: _, ran: _ } => return,

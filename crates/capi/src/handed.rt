@@ -3,7 +3,7 @@ ghost use mathlib.Core.Path.{_≡_};
 ghost use Prim.Native.Nat.{_+_, _≤_};
 ghost use lib.ListN.{length};
 ghost use Rattle.schedule.specs.Events.{all};
-ghost use Rattle.capi.specs.Handed.{positionIn, acknowledgeIn, keptIn, readOf, zeroAt, placeFits, formedOf, brokenOf, handedOf};
+ghost use Rattle.capi.specs.Handed.{positionIn, acknowledgeIn, keptIn, recordedOf, zeroAt, placeFits, formedOf, brokenOf, handedOf};
 use effect::kept::Kept;
 use effect::registers::Registers;
 use machine::record::Machine;
@@ -55,9 +55,9 @@ fn kept(z: &[u8]) -> Kept
 }
 
 // The machine that the bytes say.
-fn read(z: &[u8]) -> Machine
+fn recorded(z: &[u8]) -> Machine
     requires { ⌜ 64 ≤ length (now z) ⌝ }
-    ensures { λ m. ⌜ m ≡ readOf (now (z .entry)) ⌝ }
+    ensures { λ m. ⌜ m ≡ recordedOf (now (z .entry)) ⌝ }
 {
     Machine {
         regs: registers_in(z),
@@ -120,7 +120,7 @@ pub(crate) fn handed(z: &[u8]) -> Machine
     ensures { λ m. ⌜ m ≡ handedOf (now (z .entry)) ⌝ }
 {
     if z.len() == 64 {
-        if formed(z) { read(z) } else { broken() }
+        if formed(z) { recorded(z) } else { broken() }
     } else {
         broken()
     }

@@ -4,13 +4,13 @@ ghost use mathlib.Core.Path.{_≡_};
 ghost use Rattle.machine.specs.Well.{wellOf};
 ghost use Rattle.capi.specs.Handed.{handedOf};
 ghost use Rattle.capi.specs.Calls.{requestCall, ColdCall, StepCall, RunCall, SaveCall, LoadCall};
-use crate::flat::put;
 use crate::flat::put_answer;
+use crate::flat::record_with;
 use crate::handed::handed;
 use crate::number::DONE;
 use crate::number::ILL_FORMED;
-use crate::number::packed;
 use crate::number::request_number;
+use crate::number::run_number;
 use crate::number::step_number;
 use machine::record::Machine;
 use run::Asked;
@@ -28,7 +28,7 @@ pub extern "C" fn fez_cold(z: &mut [u8]) -> u8
     ensures { λ r. ⌜ ColdCall (now (z .entry)) r (now (z .exit)) ⌝ }
 {
     let size = z.len();
-    put(z, Machine::cold());
+    record_with(z, Machine::cold());
     if size == 64 { DONE } else { ILL_FORMED }
 }
 
@@ -59,7 +59,7 @@ pub extern "C" fn fez_step(z: &mut [u8], v: u8) -> u8
     let m = handed(z);
     let r = step_number(m);
     if r == DONE {
-        put(z, m.step(v));
+        record_with(z, m.step(v));
         return r;
     }
     r
@@ -86,7 +86,7 @@ pub extern "C" fn fez_run(
     };
     let answer = run::run(asked, memory, inputs, outputs, s, trace);
     put_answer(z, answer);
-    packed(answer)
+    run_number(answer)
 }
 
 // The machine, 256 output ports and 65,536 bytes of memory go into an output of 65,816 bytes: 0, or a refusal that changes
@@ -110,7 +110,7 @@ pub extern "C" fn fez_load(z: &mut [u8], s: &[u8], memory: &mut [u8], outputs: &
     let loading = saved::load(Machine::cold(), s, memory, outputs);
     match loading {
         Loading::Loaded { machine: m } => {
-            put(z, m);
+            record_with(z, m);
             DONE
         }
         Loading::Refused {

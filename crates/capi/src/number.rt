@@ -2,7 +2,7 @@
 ghost use mathlib.Core.Path.{_≡_};
 ghost use Prim.Native.Nat.{_≤_};
 ghost use Rattle.run.specs.Answer.{ranOf};
-ghost use Rattle.capi.specs.Numbers.{requestNumber, stepNumber, packedOf};
+ghost use Rattle.capi.specs.Numbers.{requestNumber, stepNumber, runNumber};
 use crate::flat::next_byte;
 use machine::record::Machine;
 use machine::request::Request;
@@ -54,9 +54,9 @@ pub(crate) fn step_number(m: Machine) -> u8
 }
 
 // A run's answer: its number, and 256 times the states done.
-pub(crate) fn packed(a: Answer) -> u64
+pub(crate) fn run_number(a: Answer) -> u64
     requires { ⌜ ranOf a .states ≤ 4294967295 ⌝ }
-    ensures { λ r. ⌜ r ≡ packedOf a ⌝ }
+    ensures { λ r. ⌜ r ≡ runNumber a ⌝ }
 {
     (number(a) as u64) + 256 * (ran(a).states as u64)
 }

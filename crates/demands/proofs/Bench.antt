@@ -1,12 +1,12 @@
 -- Every starred card passes, by computing its states. Assumes nothing.
 use mathlib.Core.Path.{refl}
-use Rattle.demands.specs.Bench.{addB, subA, daa, dcrA, dcrCarry, inrA, dadH, inxH, pushH, mviA, waits, early, holds, enabled}
+use Rattle.demands.specs.Bench.{addB, subA, daa, dcrA, dcrCarry, inrA, dadH, inxH, pushH, mviA, waits, early, holdCard, enabled}
 use Rattle.demands.specs.Bench.{Starred}
 use Rattle.demands.proofs.Cards.{passes}
 use Rattle.demands.proofs.Open.{everything}
 
 pub starred : Starred
-unfolding everything addB subA daa dcrA dcrCarry inrA dadH inxH pushH mviA waits early holds enabled
+unfolding everything addB subA daa dcrA dcrCarry inrA dadH inxH pushH mviA waits early holdCard enabled
 starred = (
   passes addB refl,
   (
@@ -32,7 +32,7 @@ starred = (
                       (
                         passes early refl,
                         (
-                          passes holds refl,
+                          passes holdCard refl,
                           (
                             passes enabled refl,
                             tt,

@@ -16,7 +16,7 @@ use Rattle.run.proofs.Laws.{run-plus, good-left}
 use Rattle.run.proofs.Calls.{run-same}
 use Rattle.demands.specs.Outside.{Outside, outsideOf}
 use Rattle.demands.specs.Board.{Board, boardOf}
-use Rattle.demands.specs.Calls.{worldOf, givenBack, Calls, last, more, Reached, amid, after}
+use Rattle.demands.specs.Calls.{worldOn, givenBack, Calls, last, more, Reached, amid, after}
 use Rattle.demands.proofs.Steps.{step, run, driven}
 use Rattle.demands.proofs.Bridge.{bridge}
 use Rattle.demands.proofs.Counted.{run-count}
@@ -78,7 +78,7 @@ module _ (s inputs : List ℕ) where
   pub record Long (b : Board) (k : ℕ) (b' : Board) : Type 0 where
     pub well : T (wellOf (b .machine))
     pub time : b .machine .clock + k ≤ 4294967295
-    pub board : b' ≡ boardOf (runOf s inputs k (worldOf b []))
+    pub board : b' ≡ boardOf (runOf s inputs k (worldOn b []))
 
   -- the states that a call answers are those asked
   pub answered : (w : World) (n : ℕ) (r : Ran) → w .states ≡ 0 → Good false w inputs s n r → r .states ≡ n
@@ -86,14 +86,14 @@ module _ (s inputs : List ℕ) where
 
   pub reached-long : (b b' : Board) (k : ℕ) → Reached s inputs b k b' → Long b k b'
   reached-long b _ _ (amid l n k g h) =
-      let t = good-time (worldOf b l) inputs s n g in
+      let t = good-time (worldOn b l) inputs s n g in
       record {
-        well = good-well (worldOf b l) inputs s n g;
+        well = good-well (worldOn b l) inputs s n g;
         time = omega arith;
-        board = same-boards k (worldOf b l) (worldOf b []) refl refl;
+        board = same-boards k (worldOn b l) (worldOn b []) refl refl;
       }
   reached-long b b' _ (after {k = k} l n r e c) =
-      let w = worldOf b l in
+      let w = worldOn b l in
       let g = answer-good w inputs s n false r e in
       let q = answered w n r refl g in
       let t = good-time w inputs s n (g .verdict) in
@@ -107,16 +107,16 @@ module _ (s inputs : List ℕ) where
         time = omega (arith, y .time);
         board =
             y .board
-            ∙ sym (same-boards k (runOf s inputs n w) (worldOf x []) (sym at) refl)
+            ∙ sym (same-boards k (runOf s inputs n w) (worldOn x []) (sym at) refl)
             ∙ ap boardOf (sym (run-plus s inputs n k w))
-            ∙ same-boards (n + k) w (worldOf b []) refl refl
-            ∙ ap (λ (i : ℕ). boardOf (runOf s inputs (i + k) (worldOf b []))) (sym q);
+            ∙ same-boards (n + k) w (worldOn b []) refl refl
+            ∙ ap (λ (i : ℕ). boardOf (runOf s inputs (i + k) (worldOn b []))) (sym q);
       }
 
   -- the end of calls is reached
   pub calls-reached : (b b' : Board) (n : ℕ) → Calls s inputs b n b' → Reached s inputs b n b'
   calls-reached b _ _ (last l n r e) =
-      let w = worldOf b l in
+      let w = worldOn b l in
       let g = answer-good w inputs s n false r e in
       subst (λ (i : ℕ). Reached s inputs b i (givenBack w inputs s n r)) (sym (answered w n r refl g))
       (subst (λ (z : Board). Reached s inputs b n z) (sym (given-board false w n r g)) (amid l n n (g .verdict) (omega arith)))

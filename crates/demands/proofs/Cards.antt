@@ -12,7 +12,7 @@ use Rattle.run.specs.Run.{World, stoppedOf, runOf}
 use Rattle.run.specs.Check.{checkOf}
 use Rattle.run.specs.Outcome.{verdictOf, answeredOf}
 use Rattle.run.proofs.Laws.{good-left, good-answer}
-use Rattle.demands.specs.Cards.{Cell, Shown, Card, stored, worldOf, ports, leftBy, rowsOf, Passes}
+use Rattle.demands.specs.Cards.{Cell, Shown, Card, stored, cardWorld, ports, cardLeaves, shownIn, Passes}
 
 length-stored : (cs : List Cell) (x : List ℕ) → length (stored cs x) ≡ length x
 length-stored [] x = refl
@@ -26,18 +26,18 @@ abbrev pub fair : Card → Verdict
 fair k =
     checkOf (withRegs (k .before) coldOf) 65536 256 256 (k .events) (8 * length (k .states)) (length (k .states))
 
-good : (k : Card) → fair k ≡ verdict.Good → verdictOf (worldOf k) ports (k .events) (length (k .states)) ≡ verdict.Good
+good : (k : Card) → fair k ≡ verdict.Good → verdictOf (cardWorld k) ports (k .events) (length (k .states)) ≡ verdict.Good
 unfolding verdictOf
 good k f =
     rw (length-stored (k .program) (replicate 65536 0), zeros 65536, zeros 256, zeros (8 * length (k .states))) f
 
 -- the states of a card's call
 abbrev pub ran : Card → World
-ran k = runOf (k .events) ports (length (k .states)) (worldOf k)
+ran k = runOf (k .events) ports (length (k .states)) (cardWorld k)
 
 -- are what it leaves
-pub left-is : (k : Card) → fair k ≡ verdict.Good → leftBy k ≡ ran k
-left-is k f = good-left (worldOf k) ports (k .events) (length (k .states)) (good k f)
+pub left-is : (k : Card) → fair k ≡ verdict.Good → cardLeaves k ≡ ran k
+left-is k f = good-left (cardWorld k) ports (k .events) (length (k .states)) (good k f)
 
 -- what counts of them, as computed and as the card has it
 pub record Seen : Type 0 where
@@ -58,7 +58,7 @@ seenIn k =
       regs = ran k .machine .regs;
       memory = ran k .memory;
       outputs = ran k .outputs;
-      states = rowsOf (ran k .trace) (length (k .states)) 0;
+      states = shownIn (ran k .trace) (length (k .states)) 0;
     }
 
 abbrev pub expected : Card → Seen
@@ -68,7 +68,7 @@ expected k =
       stopped = false;
       count = length (k .states);
       regs = k .after;
-      memory = stored (k .written) (worldOf k .memory);
+      memory = stored (k .written) (cardWorld k .memory);
       outputs = ports;
       states = k .states;
     }
@@ -78,7 +78,7 @@ unfolding answeredOf
 passes k c =
     let f = ap (λ (x : Seen). x .verdict) c in
     let e = left-is k f in
-    let a = good-answer (worldOf k) ports (k .events) (length (k .states)) (good k f) in
+    let a = good-answer (cardWorld k) ports (k .events) (length (k .states)) (good k f) in
     record {
       answer = rw (a, e, ap (λ (x : Seen). x .stopped) c, ap (λ (x : Seen). x .count) c);
       regs = rw e (ap (λ (x : Seen). x .regs) c);

@@ -13,12 +13,12 @@ use Rattle.machine.specs.declared.record.Position.the-variants.{Fetch, Halt}
 use Rattle.machine.specs.declared.record.Machine.{Machine}
 use Rattle.machine.specs.Ending.{takesOf, acknowledgeOf, clearOf, isHlt, endedOf}
 use Rattle.run.specs.Run.{runOf}
-use Rattle.demands.specs.Outside.{Outside, outsideOf, pass}
+use Rattle.demands.specs.Outside.{Outside, outsideOf, didTimes}
 use Rattle.demands.specs.Board.{Board, boardOf, momentOf}
 use Rattle.demands.specs.Between.{begins, Acknowledges}
 use Rattle.demands.specs.Legs.{Tally, tally, plus, statesIn, afterwards, opcodeAt, manualAt, statesAt, instruction, stay}
 use Rattle.demands.specs.Legs.{go}
-use Rattle.demands.specs.Calls.{worldOf}
+use Rattle.demands.specs.Calls.{worldOn}
 use Rattle.demands.specs.Demand2.{InstructionsDone, ForcedDone, Executed, InstructionEnds}
 use Rattle.demands.specs.Manual.{Result}
 use Rattle.demands.specs.Demand3.{StatesForced}
@@ -50,13 +50,13 @@ pub instructions-done : InstructionsDone
 instructions-done s inputs b b' k r w f =
     let l = reached-long s inputs b b' k r in
     let E = outsideOf s inputs (b .machine) in
-    let e : b' ≡ run E k b = l .board ∙ bridge s inputs k (worldOf b []) (l .time) in
+    let e : b' ≡ run E k b = l .board ∙ bridge s inputs k (worldOn b []) (l .time) in
     subst (Costs E b k) (sym e)
     (costs-run E b k (between-start b (l .well) w) (ap (λ (x : Board). begins (x .machine .next)) (sym e) ∙ f))
 
 pub forced-done : ForcedDone
 forced-done s inputs b b' q t h =
-    bridge s inputs (statesIn q) (worldOf b []) h ∙ trip-run (outsideOf s inputs (b .machine)) b b' q t
+    bridge s inputs (statesIn q) (worldOn b []) h ∙ trip-run (outsideOf s inputs (b .machine)) b b' q t
 
 pub states-forced : StatesForced
 states-forced s inputs b b' n c w v = instructions-done s inputs b b' n (calls-reached s inputs b b' n c) w (v .0)
@@ -80,8 +80,8 @@ instruction-ends s inputs b w h e k d f l =
     let E = outsideOf s inputs (b .machine) in
     let q : Tally = tally (statesAt b) w h 0 in
     let n : statesIn (plus q (tally 0 0 0 0)) ≡ statesAt b + w + h = omega arith in
-    let x = afterwards (opcodeAt b) (manualAt E b) (pass E (statesAt b + w + h) (momentOf b)) in
-    let r : boardOf (runOf s inputs (statesAt b + w + h) (worldOf b [])) ≡ x =
-    ap (λ (i : ℕ). boardOf (runOf s inputs i (worldOf b []))) (sym n)
+    let x = afterwards (opcodeAt b) (manualAt E b) (didTimes E (statesAt b + w + h) (momentOf b)) in
+    let r : boardOf (runOf s inputs (statesAt b + w + h) (worldOn b [])) ≡ x =
+    ap (λ (i : ℕ). boardOf (runOf s inputs i (worldOn b []))) (sym n)
     ∙ forced-done s inputs b x (plus q (tally 0 0 0 0)) (go (instruction w h e k d f) stay) (omega arith) in
     subst (Executed (manualAt E b)) (sym r) (ended-executed _ (manualAt E b) refl)

@@ -14,7 +14,7 @@ use Rattle.effect.specs.declared.registers.Registers.{Registers}
 use Rattle.effect.specs.Effect.{effectOf}
 use Rattle.machine.specs.declared.record.Position.the-variants.{Fetch}
 use Rattle.machine.specs.Step.{risenOf}
-use Rattle.demands.specs.Outside.{Outside, Moment, pass}
+use Rattle.demands.specs.Outside.{Outside, Moment, didTimes}
 use Rattle.demands.proofs.Work.{Work, useCycle, opcodeOf, workOf}
 use Rattle.demands.specs.Board.{Board, momentOf}
 use Rattle.demands.specs.Bound.{Neither, underWay}
@@ -33,7 +33,7 @@ use Rattle.demands.proofs.Results.{under-fetch}
 
 -- on the board b, i states after the moment t: o of them are neither waits nor holds, of n at the most, and INTE is e
 pub record Facts (E : Outside) (t : Moment) (n : ℕ) (e : Bool) (b : Board) (i o : ℕ) : Type 0 where
-  pub moment : momentOf b ≡ pass E i t
+  pub moment : momentOf b ≡ didTimes E i t
   pub few : o ≤ n
   pub inte : b .machine .regs .inte ≡ e
 
@@ -61,10 +61,10 @@ module _ (E : Outside) where
 
   module _ (d₀ : Work) (t₀ : Moment) (e₀ : codeOf (d₀ .kept .opcode) 1 ≡ fetch4) (n : Neither (opcodeOf E d₀)) where
     -- a part of an instruction after a part of it
-    shifted : (b : Board) (t : Moment) (i₀ i₁ i : ℕ) → t ≡ pass E i₀ t₀ → i ≡ i₀ + i₁ → momentOf b ≡ pass E i₁ t
-        → momentOf b ≡ pass E i t₀
+    shifted : (b : Board) (t : Moment) (i₀ i₁ i : ℕ) → t ≡ didTimes E i₀ t₀ → i ≡ i₀ + i₁ → momentOf b ≡ didTimes E i₁ t
+        → momentOf b ≡ didTimes E i t₀
     shifted b t i₀ i₁ i p q e =
-        e ∙ ap (pass E i₁) p ∙ sym (pass-add E i₀ i₁ t₀) ∙ ap (λ (x : ℕ). pass E x t₀) (sym q)
+        e ∙ ap (didTimes E i₁) p ∙ sym (pass-add E i₀ i₁ t₀) ∙ ap (λ (x : ℕ). didTimes E x t₀) (sym q)
 
     going-facts : {b : Board} {i o : ℕ} → Going E d₀ t₀ b i o → Facts E t₀ 18 (d₀ .regs .inte) b i o
     going-facts begin = record { moment = refl; few = omega arith; inte = refl }

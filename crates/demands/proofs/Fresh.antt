@@ -12,11 +12,11 @@ use Rattle.effect.specs.Kept.{keptFor}
 use Rattle.machine.specs.declared.record.Position.{Position}
 use Rattle.machine.specs.declared.record.Position.the-variants.{Fetch, Later, Wait, Hold, Halt, Stop}
 use Rattle.machine.specs.declared.record.Machine.{Machine}
-use Rattle.machine.specs.Well.{doneOf, readOf, wellOf}
+use Rattle.machine.specs.Well.{cyclesDone, zeroOrRead, wellOf}
 use Rattle.machine.proofs.Parts.{ReadyAt, parts-of}
 use Rattle.machine.proofs.Bytes.{bytes-each}
 use Rattle.demands.specs.Board.{Board}
-use Rattle.demands.specs.Between.{begins, Between}
+use Rattle.demands.specs.Between.{begins, Beginning}
 use Rattle.demands.proofs.Openings.{Start, fetching, halting}
 
 or-first : (a : Bool) → T (a || false) → T a
@@ -33,7 +33,7 @@ no-number a r e t = eqb→eq r 0 (subst (λ (x : Bool). T (not x || eqb r 0)) e 
 
 -- nothing is kept where no cycle has read and no acknowledge is named
 kept-none : (m : Machine) → ReadyAt m 0 → isNone (m .kept .ack) ≡ true → m .kept ≡ keptFor None 0
-unfolding keptFor readOf
+unfolding keptFor zeroOrRead
 kept-none m r e =
     let k = m .kept in
     let f = bytes-each k 0 (r .bytes) in
@@ -57,11 +57,11 @@ place Halt e = inr refl
 place Stop e = absurd (false≢true e)
 
 -- a leg begins
-pub between-start : (b : Board) → T (wellOf (b .machine)) → Between (b .machine) → Start b
-unfolding doneOf
+pub between-start : (b : Board) → T (wellOf (b .machine)) → Beginning (b .machine) → Start b
+unfolding cyclesDone
 between-start b w (e, n) =
     ⊎-elim
     (λ (f : b .machine .next ≡ Fetch).
-    fetching f (kept-none (b .machine) (subst (λ p. ReadyAt (b .machine) (doneOf p)) f (parts-of (b .machine) w .ready)) n))
+    fetching f (kept-none (b .machine) (subst (λ p. ReadyAt (b .machine) (cyclesDone p)) f (parts-of (b .machine) w .ready)) n))
     (λ (f : b .machine .next ≡ Halt). halting f)
     (place (b .machine .next) e)

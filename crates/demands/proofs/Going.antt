@@ -20,7 +20,7 @@ use Rattle.machine.specs.Record.{withNext}
 use Rattle.machine.specs.Ending.{takesOf, acknowledgeOf, clearOf, endedOf, followOf}
 use Rattle.machine.specs.Step.{risenOf}
 use Rattle.run.specs.State.{byteOn}
-use Rattle.demands.specs.Outside.{Outside, Moment, pass}
+use Rattle.demands.specs.Outside.{Outside, Moment, didTimes}
 use Rattle.demands.specs.Rows.{Waits, Forced, none}
 use Rattle.demands.proofs.Work.{Work, asking, risen, useCycle, uses, opcodeOf, here}
 use Rattle.demands.specs.Board.{Board}
@@ -86,7 +86,7 @@ module _ (E : Outside) (d₀ : Work) (t₀ : Moment) where
     pub flags : d .regs .f ≡ d₀ .regs .f
     pub inte : d .regs .inte ≡ d₀ .regs .inte
     pub work : uses E (suc c) l d ≡ uses E 0 cs d₀
-    pub moment : t ≡ pass E i t₀
+    pub moment : t ≡ didTimes E i t₀
     pub owned : o + totalOf l ≡ totalOf cs
     pub later : T (laterShape l)
     pub w : ℕ
@@ -118,7 +118,7 @@ module _ (E : Outside) (d₀ : Work) (t₀ : Moment) where
     pub owned : o ≡ totalOf cs
     pub opcode : uses E 0 cs d₀ .kept .opcode ≡ op
     pub inte : Neither op → effectOf (uses E 0 cs d₀ .kept) (uses E 0 cs d₀ .regs) .inte ≡ d₀ .regs .inte
-    pub board : b ≡ Ended (uses E 0 cs d₀) (pass E i t₀)
+    pub board : b ≡ Ended (uses E 0 cs d₀) (didTimes E i t₀)
 
   -- the opcode is not defined
   pub record Stops (b : Board) (i o : ℕ) : Type 0 where
@@ -135,7 +135,7 @@ module _ (E : Outside) (d₀ : Work) (t₀ : Moment) where
           memory = useCycle E fetch4 0 d₀ .memory;
           outputs = useCycle E fetch4 0 d₀ .outputs;
         })
-        Stop (pass E i t₀)
+        Stop (didTimes E i t₀)
 
   abbrev pub Next : Board → ℕ → ℕ → Type 0
   Next b i o = Going b i o ⊎ (Finished b i o ⊎ Stops b i o)

@@ -17,7 +17,7 @@ use Rattle.machine.specs.declared.record.Position.the-variants.{Fetch, Later, W
 use Rattle.machine.specs.declared.record.Machine.{Machine}
 use Rattle.machine.specs.Cycle.{cyclesOf}
 use Rattle.machine.specs.Request.{restartOf}
-use Rattle.machine.specs.Well.{fixedOf, listedOf, oneOf, isState, thereOf, doneOf, idleOf, ackedOf, readOf, bytesOf, wellOf}
+use Rattle.machine.specs.Well.{fixedOf, levelsListed, oneOf, isState, thereOf, cyclesDone, idleOf, ackedOf, zeroOrRead, bytesOf, wellOf}
 use Rattle.demands.specs.IllFormed.{_or_, _and_, Not, WrongBit, Unlisted, Exists, Over, Idle, WrongRestart, Unread, EarlyByte}
 use Rattle.demands.specs.IllFormed.{IllFormed}
 use Rattle.demands.proofs.Decides.{Bars, Shows, always, never, shows-sure, bars-not, shows-so, bars-turned, shows-turned}
@@ -65,8 +65,8 @@ later-over false d s c e h =
     shows-so (shows-leb c d) (λ x. ⊎-elim (λ q. inr (q, l)) (λ q. inl q) (eq-or-lt-of-le x))
     (⊎-elim (λ x. omega arith) (λ x. let m = x .0 in omega arith))
 
-over-shows : (p : Position) (c : ℕ) → 1 ≤ c → Shows (leb c (doneOf p)) (Over p c)
-unfolding doneOf
+over-shows : (p : Position) (c : ℕ) → 1 ≤ c → Shows (leb c (cyclesDone p)) (Over p c)
+unfolding cyclesDone
 over-shows Fetch c h = shows-so (shows-leb c 0) (λ x. let no : ⊥ = omega arith in no) (λ x. absurd x)
 over-shows (Later d s) c h = later-over (leb s 3) d s c refl h
 over-shows (Wait d) c h = shows-so (shows-leb c (d - 1)) (λ x. omega arith) (λ x. omega arith)
@@ -78,23 +78,23 @@ some : (n : ℕ) → (n ≡ 0 → ⊥) → 1 ≤ n
 some zero f = absurd (f refl)
 some (suc n) f = omega arith
 
-over-one : (p : Position) → Bars (eqb (doneOf p) 0) (Over p 1)
+over-one : (p : Position) → Bars (eqb (cyclesDone p) 0) (Over p 1)
 over-one p =
     let d = over-shows p 1 (omega arith) in
     record {
       pass =
           λ e x.
-          let z = eqb-true (doneOf p) 0 e in
-          let l = leb-true 1 (doneOf p) (shows-sure (leb 1 (doneOf p)) d x) in
+          let z = eqb-true (cyclesDone p) 0 e in
+          let l = leb-true 1 (cyclesDone p) (shows-sure (leb 1 (cyclesDone p)) d x) in
           let no : ⊥ = omega (arith, z, l) in no;
-      fail = λ e. d .pass (le-leb 1 (doneOf p) (some (doneOf p) (eqb-false (doneOf p) 0 e)));
+      fail = λ e. d .pass (le-leb 1 (cyclesDone p) (some (cyclesDone p) (eqb-false (cyclesDone p) 0 e)));
     }
 
-unread-bars : (op : ℕ) (p : Position) (c b : ℕ) → 1 ≤ c → Bars (readOf op (doneOf p) c b) (Unread op p c b)
-unfolding readOf
+unread-bars : (op : ℕ) (p : Position) (c b : ℕ) → 1 ≤ c → Bars (zeroOrRead op (cyclesDone p) c b) (Unread op p c b)
+unfolding zeroOrRead
 unread-bars op p c b h =
-    bars-or (eqb b 0) (leb c (doneOf p) && readsOf (codeOf op c)) (bars-not (shows-eqb b 0))
-    (bars-not (shows-and (leb c (doneOf p)) (readsOf (codeOf op c)) (over-shows p c h) (shows-true (readsOf (codeOf op c)))))
+    bars-or (eqb b 0) (leb c (cyclesDone p) && readsOf (codeOf op c)) (bars-not (shows-eqb b 0))
+    (bars-not (shows-and (leb c (cyclesDone p)) (readsOf (codeOf op c)) (over-shows p c h) (shows-true (readsOf (codeOf op c)))))
 
 -- the clauses of document 01
 pub bit-bars : (f : ℕ) → Bars (fixedOf f) (WrongBit f)
@@ -104,8 +104,8 @@ bit-bars f =
     (bars-and (eqb (f / 32 % 2) 0) (eqb (f / 8 % 2) 0) (bars-not (shows-eqb (f / 32 % 2) 0)) (bars-not (shows-eqb (f / 8 % 2) 0)))
     (bars-not (shows-eqb (f / 2 % 2) 1))
 
-pub line-bars : (l : Lines) → Bars (listedOf l) (Unlisted l)
-unfolding listedOf
+pub line-bars : (l : Lines) → Bars (levelsListed l) (Unlisted l)
+unfolding levelsListed
 line-bars l =
     bars-and (leb (l .ready) 1 && leb (l .hold) 1) (leb (l .int) 8)
     (bars-and (leb (l .ready) 1) (leb (l .hold) 1) (bars-leb (l .ready) 1) (bars-leb (l .hold) 1)) (bars-leb (l .int) 8)
@@ -122,7 +122,7 @@ restart-bars k p =
     (bars-or _ _ (bars-turned none (shows-true none)) (bars-not (shows-eqb (k .rst) 0))))
     (bars-or _ _ (bars-true none) (bars-turned (idleOf p) (idle-shows p)))
 
-byte-bars : (k : Kept) (p : Position) → Bars (bytesOf k (doneOf p)) (EarlyByte k p)
+byte-bars : (k : Kept) (p : Position) → Bars (bytesOf k (cyclesDone p)) (EarlyByte k p)
 unfolding bytesOf
 byte-bars k p =
     let op = k .opcode in

@@ -17,12 +17,12 @@ use Rattle.machine.specs.declared.row.Row.{Row}
 use Rattle.opcodes.specs.Totals.{listedTotal}
 use Rattle.demands.specs.Symbols.{condition}
 use Rattle.demands.specs.States.{manualStates}
-use Rattle.demands.specs.Outside.{Outside, levelsFrom, outsideOf, pass, down, up}
+use Rattle.demands.specs.Outside.{Outside, levelsFrom, outsideOf, didTimes, down, up}
 use Rattle.demands.specs.Rows.{Forced, none, one}
 use Rattle.demands.specs.Board.{Board, boardOf, momentOf}
 use Rattle.demands.specs.Course.{courseOf}
 use Rattle.demands.specs.Legs.{tally, afterwards, opcodeAt, manualAt, courseAt, instruction, Trip, stay, go}
-use Rattle.demands.specs.Calls.{worldOf, givenBack, last, amid}
+use Rattle.demands.specs.Calls.{worldOn, givenBack, last, amid}
 use Rattle.demands.specs.Costs.{Costs}
 use Rattle.demands.proofs.Open.{everything}
 use Rattle.demands.proofs.Cards.{zeros}
@@ -46,7 +46,7 @@ abbrev dip : List ℕ
 dip = 1 ∷ 0 ∷ 0 ∷ 0 ∷ 0 ∷ 0 ∷ 3 ∷ 0 ∷ 0 ∷ 0 ∷ 0 ∷ 1 ∷ []
 
 abbrev world : World
-world = worldOf still (replicate 48 0)
+world = worldOn still (replicate 48 0)
 
 fair : checkOf coldOf 65536 256 256 dip 48 6 ≡ Good
 unfolding everything
@@ -97,7 +97,7 @@ forced = one {code = 0x14} {cs = []} {t = 0} {w = 0} {h = 0} 2 0 (down-twice, re
 
 -- where they lead
 abbrev there : Board
-there = afterwards 0 (manualAt E still) (pass E 6 (momentOf still))
+there = afterwards 0 (manualAt E still) (didTimes E 6 (momentOf still))
 
 nop : Trip E still (tally 4 2 0 0) there
 unfolding everything manualStates listedTotal condition
@@ -108,12 +108,12 @@ pub two-waits : tally 4 2 0 0 ≡ six-states .tallied
 two-waits = six-states .only (tally 4 2 0 0) there nop refl .0
 
 -- the run does it
-pub nop-done : boardOf (runOf dip ports 6 (worldOf still [])) ≡ there
+pub nop-done : boardOf (runOf dip ports 6 (worldOn still [])) ≡ there
 unfolding coldOf
 nop-done = forced-done dip ports still there (tally 4 2 0 0) nop (omega arith)
 
 -- and so it does of the instruction by itself, and where it ends amid a longer call
-pub nop-executed : Executed (manualAt E still) (boardOf (runOf dip ports 6 (worldOf still [])))
+pub nop-executed : Executed (manualAt E still) (boardOf (runOf dip ports 6 (worldOn still [])))
 unfolding everything outsideOf manualStates listedTotal condition
 nop-executed = instruction-ends dip ports still 2 0 refl refl refl forced (omega arith)
 
@@ -137,7 +137,7 @@ abbrev eight : Board
 eight = record { machine = coldOf; memory = 0x08 ∷ replicate 65535 0; outputs = replicate 256 0 }
 
 abbrev five : World
-five = worldOf eight (replicate 40 0)
+five = worldOn eight (replicate 40 0)
 
 five-fair : checkOf coldOf 65536 256 256 [] 40 5 ≡ Good
 unfolding everything

@@ -11,7 +11,7 @@ use Rattle.opcodes.specs.declared.cycle.Acknowledge.the-variants.{None}
 use Rattle.effect.specs.Kept.{keptFor}
 use Rattle.machine.specs.declared.record.Position.the-variants.{Fetch, Hold, Halt}
 use Rattle.demands.specs.Between.{Acknowledges}
-use Rattle.demands.specs.Outside.{Outside, pass, up}
+use Rattle.demands.specs.Outside.{Outside, didTimes, up}
 use Rattle.demands.proofs.Work.{opcodeOf, here, workOf}
 use Rattle.demands.specs.Rows.{Through, Row}
 use Rattle.demands.specs.Board.{Board, momentOf}
@@ -39,7 +39,7 @@ module _ (E : Outside) (b₀ : Board) where
         → Going E (workOf b₀) (momentOf b₀) b i o → Now b i o
     resting : b₀ .machine .next ≡ Halt → Now (here (workOf b₀) Halt (momentOf b₀)) 0 0
     held : (j i : ℕ) → b₀ .machine .next ≡ Halt → i ≡ suc j → Through (up E) (b₀ .machine .clock) (suc j)
-        → Now (here (halted (workOf b₀)) (Hold 2) (pass E i (momentOf b₀))) i 1
+        → Now (here (halted (workOf b₀)) (Hold 2) (didTimes E i (momentOf b₀))) i 1
 
   -- the leg is over
   pub record Ran (b : Board) (i o : ℕ) : Type 0 where
@@ -49,7 +49,7 @@ module _ (E : Outside) (b₀ : Board) where
     pub owned : o ≡ tallied .manual + tallied .halts
     pub few : o ≤ 18
     pub start : Start b
-    pub takes : Neither (underWay b₀) → b₀ .machine .regs .inte ≡ true → pass E i (momentOf b₀) .lines .int < 8
+    pub takes : Neither (underWay b₀) → b₀ .machine .regs .inte ≡ true → didTimes E i (momentOf b₀) .lines .int < 8
         → Acknowledges (b .machine)
 
   -- the machine stops, at the undefined opcode of an instruction
@@ -71,9 +71,9 @@ module _ (E : Outside) (b₀ : Board) where
       let d : definedOf (opcodeAt b₀) ≡ true = ap definedOf (sym q) ∙ f .defined in
       let (w, h, forced, n, owned, board) = over-as E b₀ (opcodeAt b₀) q f in
       let t = manual-states E b₀ in
-      let board' : b ≡ afterwards (opcodeAt b₀) (manualAt E b₀) (pass E (statesAt b₀ + w + h) (momentOf b₀)) =
+      let board' : b ≡ afterwards (opcodeAt b₀) (manualAt E b₀) (didTimes E (statesAt b₀ + w + h) (momentOf b₀)) =
       board
-      ∙ ap₂ (λ (x : Result) (y : ℕ). afterwards (opcodeAt b₀) x (pass E (y + w + h) (momentOf b₀))) (manual-done E b₀ k d) t in
+      ∙ ap₂ (λ (x : Result) (y : ℕ). afterwards (opcodeAt b₀) x (didTimes E (y + w + h) (momentOf b₀))) (manual-done E b₀ k d) t in
       record {
         tallied = tally (statesAt b₀) w h 0;
         leg = subst (Leg E b₀ _) (sym board') (instruction w h e k d forced);
@@ -87,9 +87,9 @@ module _ (E : Outside) (b₀ : Board) where
       let q = opcode-ack E b₀ a m z l k in
       let (w, h, forced, n, owned, board) = over-as E b₀ (restartByte m) q f in
       let t : totalAt E b₀ (restartByte m) ≡ restartStates = restart-total m l (metOf (restartByte m) (b₀ .machine .regs .f)) in
-      let board' : b ≡ afterwards (restartByte m) (restartAt E b₀ m) (pass E (restartStates + w + h) (momentOf b₀)) =
+      let board' : b ≡ afterwards (restartByte m) (restartAt E b₀ m) (didTimes E (restartStates + w + h) (momentOf b₀)) =
       board
-      ∙ ap₂ (λ (x : Result) (y : ℕ). afterwards (restartByte m) x (pass E (y + w + h) (momentOf b₀)))
+      ∙ ap₂ (λ (x : Result) (y : ℕ). afterwards (restartByte m) x (didTimes E (y + w + h) (momentOf b₀)))
       (restart-done E b₀ a m z l off k) t in
       record {
         tallied = tally restartStates w h 0;
@@ -113,22 +113,22 @@ module _ (E : Outside) (b₀ : Board) where
 
   -- the end of a halt state and its holds
   halt-over : (b : Board) (h i o : ℕ) → b₀ .machine .next ≡ Halt → Row (up E) (b₀ .machine .clock) h → i ≡ suc h → o ≡ 1
-      → b ≡ afterwards 0x76 (kept-all (workOf b₀)) (pass E i (momentOf b₀)) → Ran b i o
+      → b ≡ afterwards 0x76 (kept-all (workOf b₀)) (didTimes E i (momentOf b₀)) → Ran b i o
   halt-over b h i o e r n q p =
       let n' : i ≡ 1 + h = omega arith in
-      let board : b ≡ afterwards 0x76 (kept-all (workOf b₀)) (pass E (1 + h) (momentOf b₀)) =
-      p ∙ ap (λ x. afterwards 0x76 (kept-all (workOf b₀)) (pass E x (momentOf b₀))) n' in
+      let board : b ≡ afterwards 0x76 (kept-all (workOf b₀)) (didTimes E (1 + h) (momentOf b₀)) =
+      p ∙ ap (λ x. afterwards 0x76 (kept-all (workOf b₀)) (didTimes E x (momentOf b₀))) n' in
       record {
         tallied = tally 0 0 h 1;
         leg = subst (Leg E b₀ _) (sym board) (halt h e r);
         count = omega arith;
         owned = q;
         few = omega arith;
-        start = subst Start (sym board) (after-start 0x76 _ (pass E (1 + h) (momentOf b₀)));
+        start = subst Start (sym board) (after-start 0x76 _ (didTimes E (1 + h) (momentOf b₀)));
         takes =
             λ z t u.
             subst (λ (x : Board). Acknowledges (x .machine)) (sym p)
-            (after-takes 0x76 (kept-all (workOf b₀)) (pass E i (momentOf b₀)) refl t u);
+            (after-takes 0x76 (kept-all (workOf b₀)) (didTimes E i (momentOf b₀)) refl t u);
       }
 
   -- one state more
@@ -150,15 +150,15 @@ module _ (E : Outside) (b₀ : Board) where
       (halt-off E (workOf b₀) (momentOf b₀) h))))
       (bool (up E t))
   now-step (held j i e n t) =
-      let at : pass E i (momentOf b₀) .clock ≡ b₀ .machine .clock + suc j = clock-pass E i (momentOf b₀) ∙ omega arith in
+      let at : didTimes E i (momentOf b₀) .clock ≡ b₀ .machine .clock + suc j = clock-pass E i (momentOf b₀) ∙ omega arith in
       ⊎-elim
-      (λ (h : up E (pass E i (momentOf b₀) .clock) ≡ true).
+      (λ (h : up E (didTimes E i (momentOf b₀) .clock) ≡ true).
       inl
-      (subst (λ (z : Board). Now z (suc i) 1) (sym (hold-on E (halted (workOf b₀)) 1 (pass E i (momentOf b₀)) h))
+      (subst (λ (z : Board). Now z (suc i) 1) (sym (hold-on E (halted (workOf b₀)) 1 (didTimes E i (momentOf b₀)) h))
       (held (suc j) (suc i) e (omega arith) (through-more (up E) _ (suc j) _ t at h))))
-      (λ (h : up E (pass E i (momentOf b₀) .clock) ≡ false).
+      (λ (h : up E (didTimes E i (momentOf b₀) .clock) ≡ false).
       inr
       (inl
       (halt-over _ (suc j) (suc i) 1 e (row-end (up E) _ (suc j) _ t at h) (omega arith) refl
-      (halt-held E (workOf b₀) (pass E i (momentOf b₀)) h))))
-      (bool (up E (pass E i (momentOf b₀) .clock)))
+      (halt-held E (workOf b₀) (didTimes E i (momentOf b₀)) h))))
+      (bool (up E (didTimes E i (momentOf b₀) .clock)))

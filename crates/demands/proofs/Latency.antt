@@ -11,20 +11,20 @@ use Rattle.demands.specs.Between.{Acknowledges}
 use Rattle.demands.specs.Outside.{Outside, Moment, did}
 use Rattle.demands.specs.Board.{Board, momentOf}
 use Rattle.demands.specs.Own.{own}
-use Rattle.demands.specs.Bound.{sumOf, Neither, underWay}
+use Rattle.demands.specs.Bound.{sumBelow, Neither, underWay}
 use Rattle.demands.proofs.Steps.{step, run}
 use Rattle.demands.proofs.Journeys.{Now, Ran, Stopped, now-step}
 use Rattle.demands.proofs.Runs.{now-awake, run-on, run-off, at-stop}
 use Rattle.demands.proofs.Facts.{now-facts}
 
 -- sums of equal numbers, and of none
-pub sum-same : (f g : ℕ → ℕ) (k : ℕ) → ((j : ℕ) → j < k → f j ≡ g j) → sumOf f k ≡ sumOf g k
+pub sum-same : (f g : ℕ → ℕ) (k : ℕ) → ((j : ℕ) → j < k → f j ≡ g j) → sumBelow f k ≡ sumBelow g k
 sum-same f g zero e = refl
 sum-same f g (suc k) e =
     ap₂ (λ a b. a + b) (e 0 (omega arith))
     (sum-same (λ j. f (suc j)) (λ j. g (suc j)) k (λ j l. e (suc j) (omega arith)))
 
-pub sum-none : (f : ℕ → ℕ) (k : ℕ) → ((j : ℕ) → f j ≡ 0) → sumOf f k ≡ 0
+pub sum-none : (f : ℕ → ℕ) (k : ℕ) → ((j : ℕ) → f j ≡ 0) → sumBelow f k ≡ 0
 sum-none f zero e = refl
 sum-none f (suc k) e = let a = e 0 in let b = sum-none (λ j. f (suc j)) k (λ j. e (suc j)) in omega arith
 
@@ -39,14 +39,14 @@ stop-own Halt e = absurd (false≢true e)
 stop-own Stop e = refl
 
 -- a sum ends where nothing is left to add
-over : (k : ℕ) (f : ℕ → ℕ) (x o s : ℕ) → s ≡ x + sumOf f k → x + o ≤ 18 → (0 < k → ⊥) → o + s ≤ 18
+over : (k : ℕ) (f : ℕ → ℕ) (x o s : ℕ) → s ≡ x + sumBelow f k → x + o ≤ 18 → (0 < k → ⊥) → o + s ≤ 18
 over zero f x o s e l z = omega arith
 over (suc k) f x o s e l z = absurd (z (omega arith))
 
 module _ (E : Outside) where
   -- the states of the run from b, but for waits and holds
   abbrev pub ownFrom : Board → ℕ → ℕ
-  ownFrom b k = sumOf (λ j. own (run E j b .machine .next)) k
+  ownFrom b k = sumBelow (λ j. own (run E j b .machine .next)) k
 
   own-first : (b : Board) (k : ℕ) → stoppedOf (b .machine .next) ≡ false
       → ownFrom b (suc k) ≡ own (b .machine .next) + ownFrom (step E b) k

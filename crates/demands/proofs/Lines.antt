@@ -9,7 +9,7 @@ use Rattle.laws.specs.Choice.{pick}
 use Rattle.machine.specs.declared.record.Lines.{Lines}
 use Rattle.machine.specs.declared.record.Machine.{Machine}
 use Rattle.machine.specs.Record.{withLines}
-use Rattle.schedule.specs.Events.{numberOf, lineOf, valueOf}
+use Rattle.schedule.specs.Events.{stateNumberOf, lineOf, valueOf}
 use Rattle.schedule.specs.Levels.{actOf, onceOf, levelsAt}
 use Rattle.run.specs.Run.{eventfulOf}
 use Rattle.demands.specs.Outside.{intIn}
@@ -38,19 +38,19 @@ module _ (s : List ℕ) (t : ℕ) where
   unfolding levelsAt onceOf
   ready-only zero l l' e = e
   ready-only (suc n) l l' e =
-      once-ready (eqb (numberOf s n) t) (lineOf s n) (valueOf s n) (levelsAt s n t l) (levelsAt s n t l') (ready-only n l l' e)
+      once-ready (eqb (stateNumberOf s n) t) (lineOf s n) (valueOf s n) (levelsAt s n t l) (levelsAt s n t l') (ready-only n l l' e)
 
   pub hold-only : (n : ℕ) (l l' : Lines) → l .hold ≡ l' .hold → levelsAt s n t l .hold ≡ levelsAt s n t l' .hold
   unfolding levelsAt onceOf
   hold-only zero l l' e = e
   hold-only (suc n) l l' e =
-      once-hold (eqb (numberOf s n) t) (lineOf s n) (valueOf s n) (levelsAt s n t l) (levelsAt s n t l') (hold-only n l l' e)
+      once-hold (eqb (stateNumberOf s n) t) (lineOf s n) (valueOf s n) (levelsAt s n t l) (levelsAt s n t l') (hold-only n l l' e)
 
   pub int-only : (n : ℕ) (l l' : Lines) → l .int ≡ l' .int → levelsAt s n t l .int ≡ levelsAt s n t l' .int
   unfolding levelsAt onceOf
   int-only zero l l' e = e
   int-only (suc n) l l' e =
-      once-int (eqb (numberOf s n) t) (lineOf s n) (valueOf s n) (levelsAt s n t l) (levelsAt s n t l') (int-only n l l' e)
+      once-int (eqb (stateNumberOf s n) t) (lineOf s n) (valueOf s n) (levelsAt s n t l) (levelsAt s n t l') (int-only n l l' e)
 
 -- what the events of a state make of INT
 pub event-int : (s : List ℕ) (m : Machine) → eventfulOf s m .lines .int ≡ intIn s (m .clock) (m .lines .int)

@@ -10,7 +10,7 @@ use Rattle.opcodes.specs.declared.cycle.Acknowledge.{Acknowledge}
 use Rattle.opcodes.specs.declared.cycle.Acknowledge.the-variants.{None}
 use Rattle.effect.specs.declared.kept.Kept.{Kept}
 use Rattle.effect.specs.Kept.{keptFor}
-use Rattle.demands.specs.Outside.{Outside, pass, up}
+use Rattle.demands.specs.Outside.{Outside, didTimes, up}
 use Rattle.demands.specs.Rows.{Row, Forced, none, one}
 use Rattle.demands.specs.Board.{Board, momentOf}
 use Rattle.demands.specs.States.{restartStates}
@@ -66,7 +66,7 @@ module _ (E : Outside) where
   leg-one b _ _ _ _ (instruction w h e k d f) (instruction w' h' e' k' d' f') =
       let (s, t) = forced-one (courseAt b (opcodeAt b)) (b .machine .clock) w h w' h' f f' in (
         ap₂ (λ i j. tally (statesAt b) i j 0) s t,
-        ap₂ (λ i j. afterwards (opcodeAt b) (manualAt E b) (pass E (statesAt b + i + j) (momentOf b))) s t,
+        ap₂ (λ i j. afterwards (opcodeAt b) (manualAt E b) (didTimes E (statesAt b + i + j) (momentOf b))) s t,
       )
   leg-one b _ _ _ _ (acknowledge a n w h z l i e k f) (acknowledge a' n' w' h' z' l' i' e' k' f') =
       let m : n ≡ n' = numbered b a a' n n' k k' in
@@ -74,8 +74,8 @@ module _ (E : Outside) where
       forced-one (courseAt b (restartByte n)) (b .machine .clock) w h w' h' f
       (subst (λ (i : ℕ). Forced E (courseAt b (restartByte i)) (b .machine .clock) w' h') (sym m) f') in (
         ap₂ (λ i j. tally restartStates i j 0) s t,
-        ap₂ (λ i j. afterwards (restartByte n) (restartAt E b n) (pass E (restartStates + i + j) (momentOf b))) s t
-            ∙ ap (λ i. afterwards (restartByte i) (restartAt E b i) (pass E (restartStates + w' + h') (momentOf b))) m,
+        ap₂ (λ i j. afterwards (restartByte n) (restartAt E b n) (didTimes E (restartStates + i + j) (momentOf b))) s t
+            ∙ ap (λ i. afterwards (restartByte i) (restartAt E b i) (didTimes E (restartStates + w' + h') (momentOf b))) m,
       )
   leg-one b _ _ _ _ (halt h e r) (halt h' e' r') =
       let s : h ≡ h' = row-one (up E) (b .machine .clock) h h' r r' in (
@@ -83,7 +83,7 @@ module _ (E : Outside) where
         ap
             (λ i.
             afterwards 0x76 (record { regs = b .machine .regs; memory = b .memory; outputs = b .outputs })
-            (pass E (1 + i) (momentOf b)))
+            (didTimes E (1 + i) (momentOf b)))
             s,
       )
   leg-one b _ _ _ _ (instruction w h e k d f) (acknowledge a n w' h' z l i e' k' f') = named b a n 0 z k k'

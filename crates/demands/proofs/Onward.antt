@@ -12,7 +12,7 @@ use Rattle.opcodes.specs.Cycles.{codeOf, definedOf}
 use Rattle.opcodes.specs.Kinds.{statesOf, waitsOf, kindOf}
 use Rattle.opcodes.specs.Totals.{shape}
 use Rattle.machine.specs.declared.record.Position.the-variants.{Later}
-use Rattle.demands.specs.Outside.{Outside, Moment, did, pass}
+use Rattle.demands.specs.Outside.{Outside, Moment, did, didTimes}
 use Rattle.demands.proofs.Work.{Work, risen, useCycle}
 use Rattle.demands.specs.Board.{Board}
 use Rattle.demands.specs.Own.{own}
@@ -50,7 +50,7 @@ module _ (E : Outside) (d₀ : Work) (t₀ : Moment) (e₀ : codeOf (d₀ .kept 
         (let z : i₀ + suc i₁ ≡ suc i = omega arith in z)
         (subst (λ (z : ℕ). Next E d₀ t₀ (step E b) (i₀ + suc i₁) z)
         (let z : o₀ + (own (b .machine .next) + o₁) ≡ own (b .machine .next) + o = omega arith in z)
-        (settle E d₀ t₀ (suc c) (useCycle E y (suc c) d) (pass E (suc i₁) t) (i₀ + suc i₁) _ y l
+        (settle E d₀ t₀ (suc c) (useCycle E y (suc c) d) (didTimes E (suc i₁) t) (i₀ + suc i₁) _ y l
         (over-later E d₀ t₀ c d t i₀ o₀ x y l s v) (step E b) (v .board)))
 
     -- T3
@@ -63,10 +63,10 @@ module _ (E : Outside) (d₀ : Work) (t₀ : Moment) (e₀ : codeOf (d₀ .kept 
         onward i₁ o₁ i o p q
         (last-step E (useCycle E y (suc c) d) (suc c) y (statesOf y) t b i₁ o₁ (v .W) (Later (suc (suc c)) 3)
         (ap (step E) (v .board)
-        ∙ third-end E (risen y d) c (pass E i₁ t) y (code-is E d₀ t₀ c d t i₀ o₀ x y l s) (ap (λ (z : ℕ). eqb z 3) n)
+        ∙ third-end E (risen y d) c (didTimes E i₁ t) y (code-is E d₀ t₀ c d t i₀ o₀ x y l s) (ap (λ (z : ℕ). eqb z 3) n)
         ∙ ap
         (λ (z : ℕ).
-        Ending (suc c) (next (suc c) z (risen y d .regs)) (Later (suc (suc c)) 3) (useCycle E y (suc c) d) (did E (pass E i₁ t)))
+        Ending (suc c) (next (suc c) z (risen y d .regs)) (Later (suc (suc c)) 3) (useCycle E y (suc c) d) (did E (didTimes E i₁ t)))
         (sym (use-opcode E y c d)))
         (omega (arith, v .count)) (omega arith) (omega (arith, v .owned)) (v .waits)))
         (λ (n : statesOf y ≡ 5).
@@ -75,7 +75,7 @@ module _ (E : Outside) (d₀ : Work) (t₀ : Moment) (e₀ : codeOf (d₀ .kept 
         (subst (λ (z : Board). Late E (useCycle E y (suc c) d) (suc c) y (statesOf y) t z (suc i₁) 3)
         (sym
         (ap (step E) (v .board)
-        ∙ third-on E (risen y d) c (pass E i₁ t) y (code-is E d₀ t₀ c d t i₀ o₀ x y l s) (ap (λ (z : ℕ). eqb z 3) n)))
+        ∙ third-on E (risen y d) c (didTimes E i₁ t) y (code-is E d₀ t₀ c d t i₀ o₀ x y l s) (ap (λ (z : ℕ). eqb z 3) n)))
         (fourth (v .W) (suc i₁) (omega (arith, v .count)) (v .waits) (inr n)))))
         (later-size y l (s .later))
 
@@ -101,7 +101,7 @@ module _ (E : Outside) (d₀ : Work) (t₀ : Moment) (e₀ : codeOf (d₀ .kept 
       (subst (λ (z : ℕ). Late E u₀ 0 fetch4 (size 0 op₀) t₀ (step E b) (suc i) z)
       (let z : 3 ≡ own (b .machine .next) + o = omega (arith, v .owned) in z)
       (subst (λ (z : Board). Late E u₀ 0 fetch4 (size 0 op₀) t₀ z (suc i) 3)
-      (sym (ap (step E) (v .board) ∙ third-fetch E (risen fetch4 d₀) 0 (pass E i t₀) e₀ d))
+      (sym (ap (step E) (v .board) ∙ third-fetch E (risen fetch4 d₀) 0 (didTimes E i t₀) e₀ d))
       (fourth (v .W) (suc i) (omega (arith, v .count)) (v .waits) (first-size d))))))
       (λ (d : definedOf op₀ ≡ false).
       inr
@@ -112,7 +112,7 @@ module _ (E : Outside) (d₀ : Work) (t₀ : Moment) (e₀ : codeOf (d₀ .kept 
         waits = v .waits;
         count = omega (arith, v .count);
         owned = omega (arith, v .owned);
-        board = ap (step E) (v .board) ∙ third-stop E (risen fetch4 d₀) 0 (pass E i t₀) e₀ d;
+        board = ap (step E) (v .board) ∙ third-stop E (risen fetch4 d₀) 0 (didTimes E i t₀) e₀ d;
       })))
       (bool (definedOf op₀))
 
@@ -121,7 +121,7 @@ module _ (E : Outside) (d₀ : Work) (t₀ : Moment) (e₀ : codeOf (d₀ .kept 
       → Over E u₀ 0 fetch4 (size 0 op₀) t₀ b i o → Next E d₀ t₀ (step E b) (suc i) (own (b .machine .next) + o)
   ends-first [] d e s v = absurd s
   ends-first (x ∷ l) d e s {b} {i} {o} v =
-      settle E d₀ t₀ 0 u₀ (pass E (suc i) t₀) (suc i) (own (b .machine .next) + o) x l (over-first E d₀ t₀ x l d e v) (step E b) (v .board)
+      settle E d₀ t₀ 0 u₀ (didTimes E (suc i) t₀) (suc i) (own (b .machine .next) + o) x l (over-first E d₀ t₀ x l d e v) (step E b) (v .board)
 
   -- one state more
   pub going-step : {b : Board} {i o : ℕ} → Going E d₀ t₀ b i o → Next E d₀ t₀ (step E b) (suc i) (own (b .machine .next) + o)

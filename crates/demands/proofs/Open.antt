@@ -31,8 +31,8 @@ unfolding parityOf resultOf withCy flagByteOf flagsOf sumOf halfCarryOf addOf su
     xraOf oraOf rlcOf rrcOf ralOf rarOf cmaOf stcOf cmcOf dadOf arithmeticOf accumulatorOf metOf cycling writesOf kindOf statusOf
     statesOf waitsOf readsOf raisesOf regOf withReg withFlags withResult pairOf withPair popPair pairHighOf pairLowOf keptFor
     keepOf wzOf addressOf givenOf counted dadPair accumulated computed returned jumped called finish effectOf coldOf withLines
-    stepping showing well.fixedOf well.listedOf well.oneOf well.isState well.thereOf well.doneOf well.idleOf well.ackedOf
-    well.readOf well.bytesOf well.wellOf events.numberOf events.listedOf events.followsOf events.all events.orderedOf
+    stepping showing well.fixedOf well.levelsListed well.oneOf well.isState well.thereOf well.cyclesDone well.idleOf well.ackedOf
+    well.zeroOrRead well.bytesOf well.wellOf events.stateNumberOf events.listedOf events.followsOf events.all events.orderedOf
     events.checkedOf actOf onceOf levelsAt byteOn memoryAfter outputsAfter putRow stoppedOf eventfulOf stateOf runOf scheduleVerdict
     check.statesVerdict check.checkOf verdictOf leftOf answeredOf answerOf
 everything = 0

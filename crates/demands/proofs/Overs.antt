@@ -10,7 +10,7 @@ use Rattle.opcodes.specs.Codes.{fetch4}
 use Rattle.opcodes.specs.Cycles.{codeOf, definedOf}
 use Rattle.opcodes.specs.Kinds.{statesOf, waitsOf}
 use Rattle.opcodes.specs.Totals.{totalOf, shape}
-use Rattle.demands.specs.Outside.{Outside, Moment, pass, up}
+use Rattle.demands.specs.Outside.{Outside, Moment, didTimes, up}
 use Rattle.demands.specs.Rows.{Row, Waits, Forced, one}
 use Rattle.demands.proofs.Work.{Work, useCycle, uses}
 use Rattle.demands.specs.Board.{Board}
@@ -59,7 +59,7 @@ module _ (E : Outside) (d₀ : Work) (t₀ : Moment) where
   -- the first cycle is over
   pub over-first : (x : ℕ) (l : List ℕ) → definedOf op₀ ≡ true → cs₀ ≡ x ∷ l → {b : Board} {i o : ℕ}
       → Over E u₀ 0 fetch4 (size 0 op₀) t₀ b i o
-      → Sofar E d₀ t₀ 0 u₀ (pass E (suc i) t₀) (suc i) (own (b .machine .next) + o) x l
+      → Sofar E d₀ t₀ 0 u₀ (didTimes E (suc i) t₀) (suc i) (own (b .machine .next) + o) x l
   over-first x l d e {b} {i} {o} v =
       let s : Shaped x l = shape-parts x l (subst (λ (z : List ℕ). T (shape z)) e (course-shape op₀ (d₀ .regs .f) d)) in
       let n : statesOf x ≡ size 0 op₀ =
@@ -105,7 +105,7 @@ module _ (E : Outside) (d₀ : Work) (t₀ : Moment) where
 
     -- it is over
     pub over-later : {b : Board} {i o : ℕ} → Over E (useCycle E y (suc c) d) (suc c) y (statesOf y) t b i o
-        → Sofar E d₀ t₀ (suc c) (useCycle E y (suc c) d) (pass E (suc i) t) (i₀ + suc i) (o₀ + (own (b .machine .next) + o)) y l
+        → Sofar E d₀ t₀ (suc c) (useCycle E y (suc c) d) (didTimes E (suc i) t) (i₀ + suc i) (o₀ + (own (b .machine .next) + o)) y l
     over-later {b} {i} {o} v =
         record {
           defined = s .defined;
@@ -114,7 +114,7 @@ module _ (E : Outside) (d₀ : Work) (t₀ : Moment) where
           flags = use-flags E y (suc c) d ∙ s .flags;
           inte = use-inte E y (suc c) d ∙ s .inte;
           work = s .work;
-          moment = ap (pass E (suc i)) (s .moment) ∙ sym (pass-add E i₀ (suc i) t₀);
+          moment = ap (didTimes E (suc i)) (s .moment) ∙ sym (pass-add E i₀ (suc i) t₀);
           owned = omega (arith, s .owned, v .owned);
           later = later-rest y l (s .later);
           w = s .w + v .W;

@@ -11,7 +11,7 @@ use Rattle.opcodes.specs.Cycles.{codeOf}
 use Rattle.opcodes.specs.Kinds.{waitsOf}
 use Rattle.machine.specs.declared.record.Position.{Position}
 use Rattle.machine.specs.declared.record.Position.the-variants.{Later, Wait, Hold}
-use Rattle.demands.specs.Outside.{Outside, Moment, did, pass, down, up}
+use Rattle.demands.specs.Outside.{Outside, Moment, did, didTimes, down, up}
 use Rattle.demands.specs.Rows.{Through, Row, Waits}
 use Rattle.demands.proofs.Work.{Work, risen, here}
 use Rattle.demands.specs.Board.{Board}
@@ -24,11 +24,11 @@ use Rattle.demands.proofs.Lasts.{end-on, end-off, held-off, fourth-end,
 -- the cycle c with this code, begun at the moment t with the work d: after i states, o of them neither waits nor holds
 module _ (E : Outside) (d : Work) (c code : ℕ) (t : Moment) where
   pub data Early : Board → ℕ → ℕ → Type 0 where
-    second : Early (here d (Later (suc c) 2) (pass E 1 t)) 1 1
+    second : Early (here d (Later (suc c) 2) (didTimes E 1 t)) 1 1
     waiting : (j i : ℕ) → i ≡ 2 + j → waitsOf code ≡ true → Through (down E) (t .clock + 1) (suc j)
-        → Early (here (risen code d) (Wait (suc c)) (pass E i t)) i 2
+        → Early (here (risen code d) (Wait (suc c)) (didTimes E i t)) i 2
     third : (W i : ℕ) → i ≡ 2 + W → Waits (waitsOf code) E (t .clock + 1) W
-        → Early (here (risen code d) (Later (suc c) 3) (pass E i t)) i 2
+        → Early (here (risen code d) (Later (suc c) 3) (didTimes E i t)) i 2
 
   -- T3 is next
   pub record Third (b : Board) (i o : ℕ) : Type 0 where
@@ -36,7 +36,7 @@ module _ (E : Outside) (d : Work) (c code : ℕ) (t : Moment) where
     pub count : i ≡ 2 + W
     pub owned : o ≡ 2
     pub waits : Waits (waitsOf code) E (t .clock + 1) W
-    pub board : b ≡ here (risen code d) (Later (suc c) 3) (pass E i t)
+    pub board : b ≡ here (risen code d) (Later (suc c) 3) (didTimes E i t)
 
   moved : {b b' : Board} {i o : ℕ} → b ≡ b' → Early b' i o → Early b i o
   moved {b} {b'} {i} {o} e h = subst (λ (x : Board). Early x i o) (sym e) h
@@ -53,42 +53,42 @@ module _ (E : Outside) (d : Work) (c code : ℕ) (t : Moment) where
       ⊎-elim
       (λ (h : down E (t .clock + 1) ≡ true).
       inl
-      (moved (second-down E d c (pass E 1 t) code e w h)
+      (moved (second-down E d c (didTimes E 1 t) code e w h)
       (waiting 0 2 refl w (through-more (down E) (t .clock + 1) 0 (t .clock + 1) (through-none (down E) _) (omega arith) h))))
       (λ (h : down E (t .clock + 1) ≡ false).
       inl
-      (moved (second-up E d c (pass E 1 t) code e h)
+      (moved (second-up E d c (didTimes E 1 t) code e h)
       (third 0 2 refl
       (waits-as true 0 w (row-end (down E) (t .clock + 1) 0 (t .clock + 1) (through-none (down E) _) (omega arith) h)))))
       (bool (down E (t .clock + 1))))
       (λ (w : waitsOf code ≡ false).
-      inl (moved (second-on E d c (pass E 1 t) code e w) (third 0 2 refl (waits-as false 0 w refl))))
+      inl (moved (second-on E d c (didTimes E 1 t) code e w) (third 0 2 refl (waits-as false 0 w refl))))
       (bool (waitsOf code))
   early-step e (waiting j i q w h) =
-      let at : pass E i t .clock ≡ t .clock + 1 + suc j = clock-pass E i t ∙ omega arith in
+      let at : didTimes E i t .clock ≡ t .clock + 1 + suc j = clock-pass E i t ∙ omega arith in
       ⊎-elim
-      (λ (p : down E (pass E i t .clock) ≡ true).
+      (λ (p : down E (didTimes E i t .clock) ≡ true).
       inl
-      (moved (wait-on E (risen code d) c (pass E i t) p)
-      (waiting (suc j) (suc i) (omega arith) w (through-more (down E) (t .clock + 1) (suc j) (pass E i t .clock) h at p))))
-      (λ (p : down E (pass E i t .clock) ≡ false).
+      (moved (wait-on E (risen code d) c (didTimes E i t) p)
+      (waiting (suc j) (suc i) (omega arith) w (through-more (down E) (t .clock + 1) (suc j) (didTimes E i t .clock) h at p))))
+      (λ (p : down E (didTimes E i t .clock) ≡ false).
       inl
-      (moved (wait-off E (risen code d) c (pass E i t) p)
+      (moved (wait-off E (risen code d) c (didTimes E i t) p)
       (third (suc j) (suc i) (omega arith)
-      (waits-as true (suc j) w (row-end (down E) (t .clock + 1) (suc j) (pass E i t .clock) h at p)))))
-      (bool (down E (pass E i t .clock)))
+      (waits-as true (suc j) w (row-end (down E) (t .clock + 1) (suc j) (didTimes E i t .clock) h at p)))))
+      (bool (down E (didTimes E i t .clock)))
   early-step e (third W i q h) = inr (record { W = W; count = q; owned = refl; waits = h; board = refl })
 
 -- the same from T4 on, where the cycle has s states, and u is the work after T3
 module _ (E : Outside) (u : Work) (c code s : ℕ) (t : Moment) where
   pub data Late : Board → ℕ → ℕ → Type 0 where
     fourth : (W i : ℕ) → i ≡ 3 + W → Waits (waitsOf code) E (t .clock + 1) W → (s ≡ 4) ⊎ (s ≡ 5)
-        → Late (here u (Later (suc c) 4) (pass E i t)) i 3
+        → Late (here u (Later (suc c) 4) (didTimes E i t)) i 3
     fifth : (W i : ℕ) → i ≡ 4 + W → Waits (waitsOf code) E (t .clock + 1) W → s ≡ 5
-        → Late (here u (Later (suc c) 5) (pass E i t)) i 4
+        → Late (here u (Later (suc c) 5) (didTimes E i t)) i 4
     holding : (W j i : ℕ) → 0 < s → i ≡ s + W + j → Waits (waitsOf code) E (t .clock + 1) W
         → Through (up E) (t .clock + (s + W - 1)) (suc j)
-        → Late (here (ended c u) (Hold (suc c)) (pass E i t)) i s
+        → Late (here (ended c u) (Hold (suc c)) (didTimes E i t)) i s
 
   -- the state of b is the last of the cycle and its holds
   pub record Over (b : Board) (i o : ℕ) : Type 0 where
@@ -98,7 +98,7 @@ module _ (E : Outside) (u : Work) (c code s : ℕ) (t : Moment) where
     pub holds : Row (up E) (t .clock + (s + W - 1)) H
     pub count : suc i ≡ s + W + H
     pub owned : own (b .machine .next) + o ≡ s
-    pub board : step E b ≡ Done c u (pass E (suc i) t)
+    pub board : step E b ≡ Done c u (didTimes E (suc i) t)
 
   -- one state on from b, or the end
   abbrev pub Onward : Board → ℕ → ℕ → Type 0
@@ -112,55 +112,55 @@ module _ (E : Outside) (u : Work) (c code s : ℕ) (t : Moment) where
 
   -- the last state of the cycle
   pub last-step : (b : Board) (i o W : ℕ) (p : Position)
-      → step E b ≡ Ending c (next c (u .kept .opcode) (u .regs)) p u (did E (pass E i t)) → suc i ≡ s + W
+      → step E b ≡ Ending c (next c (u .kept .opcode) (u .regs)) p u (did E (didTimes E i t)) → suc i ≡ s + W
       → 0 < s → own (b .machine .next) + o ≡ s → Waits (waitsOf code) E (t .clock + 1) W → Onward b i o
   last-step b i o W p e q z n w =
-      let at : pass E i t .clock ≡ t .clock + (s + W - 1) = clock-pass E i t ∙ omega arith in
-      let from : pass E i t .clock ≡ t .clock + (s + W - 1) + 0 = at ∙ omega arith in
+      let at : didTimes E i t .clock ≡ t .clock + (s + W - 1) = clock-pass E i t ∙ omega arith in
+      let from : didTimes E i t .clock ≡ t .clock + (s + W - 1) + 0 = at ∙ omega arith in
       ⊎-elim
-      (λ (h : up E (pass E i t .clock) ≡ true).
-      turned (here (ended c u) (Hold (suc c)) (pass E (suc i) t)) (e ∙ end-on E u c (pass E i t) p h) n
+      (λ (h : up E (didTimes E i t .clock) ≡ true).
+      turned (here (ended c u) (Hold (suc c)) (didTimes E (suc i) t)) (e ∙ end-on E u c (didTimes E i t) p h) n
       (holding W 0 (suc i) z (omega arith) w
-      (through-more (up E) (t .clock + (s + W - 1)) 0 (pass E i t .clock) (through-none (up E) _) from h)))
-      (λ (h : up E (pass E i t .clock) ≡ false).
+      (through-more (up E) (t .clock + (s + W - 1)) 0 (didTimes E i t .clock) (through-none (up E) _) from h)))
+      (λ (h : up E (didTimes E i t .clock) ≡ false).
       inr
       (record {
         W = W;
         H = 0;
         waits = w;
-        holds = row-end (up E) (t .clock + (s + W - 1)) 0 (pass E i t .clock) (through-none (up E) _) from h;
+        holds = row-end (up E) (t .clock + (s + W - 1)) 0 (didTimes E i t .clock) (through-none (up E) _) from h;
         count = omega arith;
         owned = n;
-        board = e ∙ end-off E u c (pass E i t) p h;
+        board = e ∙ end-off E u c (didTimes E i t) p h;
       }))
-      (bool (up E (pass E i t .clock)))
+      (bool (up E (didTimes E i t .clock)))
 
   pub late-step : {b : Board} {i o : ℕ} → size c (u .kept .opcode) ≡ s → Late b i o → Onward b i o
   late-step e (fourth W i q w (inl h)) =
       last-step _ i 3 W (Later (suc c) 4)
-      (fourth-end E u c (pass E i t) (ap (λ (n : ℕ). eqb n 4) (e ∙ h)))
+      (fourth-end E u c (didTimes E i t) (ap (λ (n : ℕ). eqb n 4) (e ∙ h)))
       (omega arith) (omega arith) (omega arith) w
   late-step e (fourth W i q w (inr h)) =
-      turned (here u (Later (suc c) 5) (pass E (suc i) t)) (fourth-on E u c (pass E i t) (ap (λ (n : ℕ). eqb n 4) (e ∙ h))) refl
+      turned (here u (Later (suc c) 5) (didTimes E (suc i) t)) (fourth-on E u c (didTimes E i t) (ap (λ (n : ℕ). eqb n 4) (e ∙ h))) refl
       (fifth W (suc i) (omega arith) w h)
   late-step e (fifth W i q w h) =
-      last-step _ i 4 W (Later (suc c) 5) (fifth-end E u c (pass E i t)) (omega arith) (omega arith) (omega arith) w
+      last-step _ i 4 W (Later (suc c) 5) (fifth-end E u c (didTimes E i t)) (omega arith) (omega arith) (omega arith) w
   late-step e (holding W j i z q w h) =
-      let at : pass E i t .clock ≡ t .clock + (s + W - 1) + suc j = clock-pass E i t ∙ omega arith in
+      let at : didTimes E i t .clock ≡ t .clock + (s + W - 1) + suc j = clock-pass E i t ∙ omega arith in
       ⊎-elim
-      (λ (p : up E (pass E i t .clock) ≡ true).
-      turned (here (ended c u) (Hold (suc c)) (pass E (suc i) t)) (hold-on E (ended c u) c (pass E i t) p) (zero-add s)
+      (λ (p : up E (didTimes E i t .clock) ≡ true).
+      turned (here (ended c u) (Hold (suc c)) (didTimes E (suc i) t)) (hold-on E (ended c u) c (didTimes E i t) p) (zero-add s)
       (holding W (suc j) (suc i) z (omega arith) w
-      (through-more (up E) (t .clock + (s + W - 1)) (suc j) (pass E i t .clock) h at p)))
-      (λ (p : up E (pass E i t .clock) ≡ false).
+      (through-more (up E) (t .clock + (s + W - 1)) (suc j) (didTimes E i t .clock) h at p)))
+      (λ (p : up E (didTimes E i t .clock) ≡ false).
       inr
       (record {
         W = W;
         H = suc j;
         waits = w;
-        holds = row-end (up E) (t .clock + (s + W - 1)) (suc j) (pass E i t .clock) h at p;
+        holds = row-end (up E) (t .clock + (s + W - 1)) (suc j) (didTimes E i t .clock) h at p;
         count = omega arith;
         owned = zero-add s;
-        board = held-off E u c (pass E i t) p;
+        board = held-off E u c (didTimes E i t) p;
       }))
-      (bool (up E (pass E i t .clock)))
+      (bool (up E (didTimes E i t .clock)))

@@ -15,7 +15,7 @@ use Rattle.effect.specs.declared.kept.Kept.{Kept}
 use Rattle.effect.specs.Kept.{keptFor}
 use Rattle.machine.specs.declared.record.Position.the-variants.{Fetch}
 use Rattle.demands.specs.Between.{Acknowledges}
-use Rattle.demands.specs.Outside.{Outside, pass}
+use Rattle.demands.specs.Outside.{Outside, didTimes}
 use Rattle.demands.proofs.Work.{uses, opcodeOf, closing, resultOf, workOf}
 use Rattle.demands.specs.Rows.{Forced}
 use Rattle.demands.specs.Board.{Board, momentOf}
@@ -38,7 +38,7 @@ module _ (E : Outside) (b₀ : Board) where
   totalAt op = listedTotal (decode op) (metOf op (b₀ .machine .regs .f))
 
   abbrev pub doneAt : ℕ → ℕ → Board
-  doneAt op n = afterwards op (resultOf E (courseAt b₀ op) (workOf b₀)) (pass E n (momentOf b₀))
+  doneAt op n = afterwards op (resultOf E (courseAt b₀ op) (workOf b₀)) (didTimes E n (momentOf b₀))
 
   -- an instruction is over
   pub over-as : (op : ℕ) {b : Board} {i o : ℕ} → opcodeOf E (workOf b₀) ≡ op → Finished E (workOf b₀) (momentOf b₀) b i o
@@ -56,7 +56,7 @@ module _ (E : Outside) (b₀ : Board) where
         f .owned ∙ total,
         f .board
             ∙ ended-as (uses E 0 (courseAt b₀ (opcodeOf E (workOf b₀))) (workOf b₀)) (opcodeOf E (workOf b₀))
-            (pass E i (momentOf b₀)) (f .opcode)
+            (didTimes E i (momentOf b₀)) (f .opcode)
             ∙ ap (λ (z : ℕ). doneAt z i) e
             ∙ ap (doneAt op) n,
       )
@@ -96,8 +96,8 @@ module _ (E : Outside) (b₀ : Board) where
       ≡ restartAt E b₀ m)
       q (restart-does E (b₀ .machine .regs) (b₀ .memory) (b₀ .outputs) n a z off (met (n % 8)))
 
-  pub start-done : (op n : ℕ) (a : Result) {b : Board} → b ≡ afterwards op a (pass E n (momentOf b₀)) → Start b
-  start-done op n a e = subst Start (sym e) (after-start op a (pass E n (momentOf b₀)))
+  pub start-done : (op n : ℕ) (a : Result) {b : Board} → b ≡ afterwards op a (didTimes E n (momentOf b₀)) → Start b
+  start-done op n a e = subst Start (sym e) (after-start op a (didTimes E n (momentOf b₀)))
 
   pub under-fetch : b₀ .machine .next ≡ Fetch → b₀ .machine .kept ≡ keptFor None 0 → underWay b₀ ≡ opcodeAt b₀
   unfolding keptFor
@@ -105,10 +105,10 @@ module _ (E : Outside) (b₀ : Board) where
 
   -- an interrupt is taken at the end of an instruction that is neither EI nor DI
   pub finish-takes : {b : Board} {i o : ℕ} → Finished E (workOf b₀) (momentOf b₀) b i o → Neither (opcodeOf E (workOf b₀))
-      → b₀ .machine .regs .inte ≡ true → pass E i (momentOf b₀) .lines .int < 8 → Acknowledges (b .machine)
+      → b₀ .machine .regs .inte ≡ true → didTimes E i (momentOf b₀) .lines .int < 8 → Acknowledges (b .machine)
   finish-takes {b} {i} f n t u =
       let cs = courseOf (opcodeOf E (workOf b₀)) (b₀ .machine .regs .f) in
       let d = uses E 0 cs (workOf b₀) in
       subst (λ (x : Board). Acknowledges (x .machine))
-      (sym (f .board ∙ ended-as d (opcodeOf E (workOf b₀)) (pass E i (momentOf b₀)) (f .opcode)))
-      (after-takes (opcodeOf E (workOf b₀)) (closing d) (pass E i (momentOf b₀)) (n .0) (f .inte n ∙ t) u)
+      (sym (f .board ∙ ended-as d (opcodeOf E (workOf b₀)) (didTimes E i (momentOf b₀)) (f .opcode)))
+      (after-takes (opcodeOf E (workOf b₀)) (closing d) (didTimes E i (momentOf b₀)) (n .0) (f .inte n ∙ t) u)

@@ -10,7 +10,7 @@ use Rattle.saved.specs.Answer.{refusalNumber}
 use Rattle.saved.specs.Header.{savedOf}
 use Rattle.saved.specs.Fields.{machineIn, portsIn, memoryIn}
 use Rattle.saved.specs.Check.{saveVerdict, loadVerdict}
-use Rattle.saved.specs.Outcome.{leftBy, savingBy, loadingBy}
+use Rattle.saved.specs.Outcome.{filledBy, savingBy, loadingBy}
 use Rattle.saved.proofs.Unique.{save-unique, load-unique}
 use Rattle.demands.specs.Saving.{FirstOf, saveTests, loadTests, SaveGiven, LoadGiven}
 use Rattle.demands.specs.Saving.{SaveTaken, LoadTaken, SavesOrRefuses}
@@ -18,7 +18,7 @@ use Rattle.demands.proofs.Tested.{same-number, not-zero, Sound, one-fir
 
 -- by the verdict
 save-by : (m : Machine) (x o z : List ℕ) (v : Verdict) → Sound (SaveGiven m x o z) saveTests v
-    → SaveTaken m x o z (savingBy v) (leftBy v (savedOf m o x) z)
+    → SaveTaken m x o z (savingBy v) (filledBy v (savedOf m o x) z)
 save-by m x o z verdict.Good n =
     record {
       refused = λ q. (λ e. not-zero q (sym e), λ f. absurd (not-both (SaveGiven m x o z) saveTests q f n));
@@ -36,7 +36,7 @@ save-by m x o z (verdict.Refused p) f =
     }
 
 load-by : (m : Machine) (s x o : List ℕ) (v : Verdict) → Sound (LoadGiven s x o) loadTests v
-    → LoadTaken m s x o (loadingBy v (machineIn s) m) (leftBy v (memoryIn s) x) (leftBy v (portsIn s) o)
+    → LoadTaken m s x o (loadingBy v (machineIn s) m) (filledBy v (memoryIn s) x) (filledBy v (portsIn s) o)
 load-by m s x o verdict.Good n =
     record {
       refused = λ q. (λ e. not-zero q (sym e), λ f. absurd (not-both (LoadGiven s x o) loadTests q f n));

@@ -7,7 +7,7 @@ use native.Mathlib.Omega.{arith}
 use native.Mathlib.Nat.{zero-add, suc-add}
 use Rattle.laws.specs.Choice.{pick}
 use Rattle.run.specs.Run.{stoppedOf}
-use Rattle.demands.specs.Outside.{Outside, pass}
+use Rattle.demands.specs.Outside.{Outside, didTimes}
 use Rattle.demands.proofs.Work.{workOf}
 use Rattle.demands.specs.States.{restartStates}
 use Rattle.demands.specs.Board.{Board, momentOf}
@@ -24,10 +24,10 @@ module _ (E : Outside) where
   -- a leg begins where one ends, so wherever one begins nothing is read
   leg-start : (b b' : Board) (q : Tally) → Leg E b q b' → Start b'
   leg-start b _ _ (instruction w h e k d f) =
-      after-start (opcodeAt b) (manualAt E b) (pass E (statesAt b + w + h) (momentOf b))
+      after-start (opcodeAt b) (manualAt E b) (didTimes E (statesAt b + w + h) (momentOf b))
   leg-start b _ _ (acknowledge a n w h z l i e k f) =
-      after-start (restartByte n) (restartAt E b n) (pass E (restartStates + w + h) (momentOf b))
-  leg-start b _ _ (halt h e r) = after-start 0x76 (kept-all (workOf b)) (pass E (1 + h) (momentOf b))
+      after-start (restartByte n) (restartAt E b n) (didTimes E (restartStates + w + h) (momentOf b))
+  leg-start b _ _ (halt h e r) = after-start 0x76 (kept-all (workOf b)) (didTimes E (1 + h) (momentOf b))
 
   pub ends-start : (b₀ b : Board) (n : ℕ) → Start b₀ → Ends E b₀ n b → begins (b .machine .next) ≡ true → Start b
   unfolding stoppedOf

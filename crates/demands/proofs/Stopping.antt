@@ -13,7 +13,7 @@ use Rattle.run.specs.Run.{World, stoppedOf, eventfulOf, stateOf, runOf}
 use Rattle.run.proofs.Laws.{run-plus}
 use Rattle.demands.specs.Outside.{outsideOf}
 use Rattle.demands.specs.Board.{Board, boardOf}
-use Rattle.demands.specs.Calls.{worldOf, givenBack}
+use Rattle.demands.specs.Calls.{worldOn, givenBack}
 use Rattle.demands.specs.Stopping.{Stopping, last, more, StopForced}
 use Rattle.demands.proofs.Bridge.{bridge, tracks-next}
 use Rattle.demands.proofs.Journeys as journeys
@@ -55,13 +55,13 @@ module _ (s inputs : List ℕ) where
     asked : ℕ
     well : T (wellOf (b .machine))
     time : b .machine .clock + asked ≤ 4294967295
-    board : b' ≡ boardOf (runOf s inputs asked (worldOf b []))
+    board : b' ≡ boardOf (runOf s inputs asked (worldOn b []))
     stops : stoppedOf (b' .machine .next) ≡ true
     clock : b' .machine .clock ≡ b .machine .clock + n
 
   stopping-halting : (b b' : Board) (n : ℕ) → Stopping s inputs b n b' → Halting b n b'
   stopping-halting b _ _ (last l n r e) =
-      let w = worldOf b l in
+      let w = worldOn b l in
       let g = answer-good w inputs s n true r e in
       let t = good-time w inputs s n (g .verdict) in
       let at = given-board s inputs true w n r g in
@@ -73,12 +73,12 @@ module _ (s inputs : List ℕ) where
         asked = n;
         well = good-well w inputs s n (g .verdict);
         time = t;
-        board = at ∙ same-boards s inputs n w (worldOf b []) refl refl;
+        board = at ∙ same-boards s inputs n w (worldOn b []) refl refl;
         stops = ap (λ (z : Board). stoppedOf (z .machine .next)) at ∙ g .ends;
         clock = omega arith;
       }
   stopping-halting b b' _ (more {k = k} l n r e c) =
-      let w = worldOf b l in
+      let w = worldOn b l in
       let g = answer-good w inputs s n false r e in
       let q = answered s inputs w n r refl g in
       let t = good-time w inputs s n (g .verdict) in
@@ -93,9 +93,9 @@ module _ (s inputs : List ℕ) where
         time = omega (arith, y .time);
         board =
             y .board
-            ∙ sym (same-boards s inputs (y .asked) (runOf s inputs n w) (worldOf x []) (sym at) refl)
+            ∙ sym (same-boards s inputs (y .asked) (runOf s inputs n w) (worldOn x []) (sym at) refl)
             ∙ ap boardOf (sym (run-plus s inputs n (y .asked) w))
-            ∙ same-boards s inputs (n + y .asked) w (worldOf b []) refl refl;
+            ∙ same-boards s inputs (n + y .asked) w (worldOn b []) refl refl;
         stops = y .stops;
         clock = omega (arith, y .clock);
       }
@@ -104,5 +104,5 @@ pub stop-forced : StopForced
 stop-forced s inputs b b' n c w =
     let x = stopping-halting s inputs b b' n c in
     let E = outsideOf s inputs (b .machine) in
-    stops-run E b b' (x .asked) n (between-start b (x .well) w) (x .board ∙ bridge s inputs (x .asked) (worldOf b []) (x .time))
+    stops-run E b b' (x .asked) n (between-start b (x .well) w) (x .board ∙ bridge s inputs (x .asked) (worldOn b []) (x .time))
     (x .stops) (x .clock)

@@ -6,7 +6,7 @@ use mathlib.Core.Logic.{_⊎_, inl, inr, ⊎-elim}
 use native.Mathlib.Omega.{arith}
 use native.Mathlib.Nat.{eq-or-lt-of-le, le-of-suc-le-suc}
 use Rattle.laws.proofs.Order.{lt-or-le}
-use Rattle.demands.specs.Outside.{Outside, Moment, did, pass, down}
+use Rattle.demands.specs.Outside.{Outside, Moment, did, didTimes, down}
 use Rattle.demands.specs.Rows.{Through, Row, Waits}
 
 pub bool : (b : Bool) → (b ≡ true) ⊎ (b ≡ false)
@@ -14,14 +14,14 @@ bool true = inl refl
 bool false = inr refl
 
 -- the clock n states later
-pub clock-pass : (E : Outside) (n : ℕ) (t : Moment) → pass E n t .clock ≡ t .clock + n
+pub clock-pass : (E : Outside) (n : ℕ) (t : Moment) → didTimes E n t .clock ≡ t .clock + n
 clock-pass E zero t = omega arith
 clock-pass E (suc n) t = let e = clock-pass E n t in omega arith
 
-pub pass-add : (E : Outside) (a b : ℕ) (t : Moment) → pass E (a + b) t ≡ pass E b (pass E a t)
-pass-add E a zero t = ap (λ (i : ℕ). pass E i t) (let e : a + 0 ≡ a = omega arith in e)
+pub pass-add : (E : Outside) (a b : ℕ) (t : Moment) → didTimes E (a + b) t ≡ didTimes E b (didTimes E a t)
+pass-add E a zero t = ap (λ (i : ℕ). didTimes E i t) (let e : a + 0 ≡ a = omega arith in e)
 pass-add E a (suc b) t =
-    ap (λ (i : ℕ). pass E i t) (let e : a + suc b ≡ suc (a + b) = omega arith in e) ∙ ap (did E) (pass-add E a b t)
+    ap (λ (i : ℕ). didTimes E i t) (let e : a + suc b ≡ suc (a + b) = omega arith in e) ∙ ap (did E) (pass-add E a b t)
 
 module _ (f : ℕ → Bool) where
   -- one state more

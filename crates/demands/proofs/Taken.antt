@@ -10,8 +10,8 @@ use Rattle.demands.specs.Outside.{Outside, intIn, outsideOf}
 use Rattle.demands.specs.Board.{Board, boardOf}
 use Rattle.demands.specs.Own.{own}
 use Rattle.demands.specs.Between.{begins, Acknowledges}
-use Rattle.demands.specs.Calls.{worldOf}
-use Rattle.demands.specs.Bound.{sumOf, Neither, underWay, worldAt, Rises, SoonTaken}
+use Rattle.demands.specs.Calls.{worldOn}
+use Rattle.demands.specs.Bound.{sumBelow, Neither, underWay, worldAt, Rises, SoonTaken}
 use Rattle.demands.proofs.Stretches.{bool}
 use Rattle.demands.proofs.Steps.{run}
 use Rattle.demands.proofs.Bridge.{bridge}
@@ -31,7 +31,7 @@ module _ (s inputs : List ℕ) (b : Board) (n : ℕ) (time : b .machine .clock +
 
   -- the world after j states
   at : (j : ℕ) → j ≤ n → boardOf (worldAt s inputs b j) ≡ run E j b
-  at j l = bridge s inputs j (worldOf b []) (omega arith)
+  at j l = bridge s inputs j (worldOn b []) (omega arith)
 
   module _ (a i k : ℕ) (l : a + i + k ≤ n) (r : Rises s inputs b a i k) where
     abbrev b₁ : Board
@@ -65,7 +65,7 @@ module _ (s inputs : List ℕ) (b : Board) (n : ℕ) (time : b .machine .clock +
         (o, subst (λ (z : Board). Now E b₁ z (0 + i) o) (sym e) x)
 
     -- the sum over the worlds is the sum over the boards
-    same-sum : sumOf (λ j. own (worldAt s inputs b (a + i + j) .machine .next)) k ≡ ownFrom E b₂ k
+    same-sum : sumBelow (λ j. own (worldAt s inputs b (a + i + j) .machine .next)) k ≡ ownFrom E b₂ k
     same-sum =
         sum-same (λ j. own (worldAt s inputs b (a + i + j) .machine .next)) (λ j. own (run E j b₂ .machine .next)) k
         (λ j h. ap (λ (x : Board). own (x .machine .next)) (at (a + i + j) (omega arith) ∙ run-add E (a + i) j b))
@@ -90,7 +90,7 @@ module _ (s inputs : List ℕ) (b : Board) (n : ℕ) (time : b .machine .clock +
         (subst (λ (y : Board). Acknowledges (y .machine)) (sym (at (a + i + j) (omega arith) ∙ run-add E (a + i) j b)) z)) in
         omega arith
 
-    pub bounded : sumOf (λ j. own (worldAt s inputs b (a + i + j) .machine .next)) k ≤ 18
+    pub bounded : sumBelow (λ j. own (worldAt s inputs b (a + i + j) .machine .next)) k ≤ 18
     bounded =
         ⊎-elim
         (λ (f : stoppedOf (b₂ .machine .next) ≡ true).

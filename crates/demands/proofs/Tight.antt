@@ -18,9 +18,10 @@ use Rattle.demands.specs.Outside.{intIn}
 use Rattle.demands.specs.Board.{Board, boardOf}
 use Rattle.demands.specs.Own.{own}
 use Rattle.demands.specs.Between.{begins, Acknowledges}
-use Rattle.demands.specs.Calls.{worldOf, Reached, amid}
-use Rattle.demands.specs.Bound.{sumOf, Rises}
-use Rattle.demands.specs.Tight.{xthl, ports, rising, after, BoundMet}
+use Rattle.demands.specs.Calls.{worldOn, Reached, amid}
+use Rattle.demands.specs.Bound.{sumBelow, Rises}
+use Rattle.demands.specs.Cards.{ports}
+use Rattle.demands.specs.Tight.{xthl, rising, after, BoundMet}
 use Rattle.demands.proofs.Open.{everything}
 use Rattle.demands.proofs.Cards.{zeros}
 use Rattle.demands.proofs.Calling.{same-boards}
@@ -30,7 +31,7 @@ fair : checkOf (xthl .machine) 65536 256 256 rising 144 18 ≡ Good
 unfolding everything
 fair = refl
 
-passes : verdictOf (worldOf xthl (replicate 144 0)) ports rising 18 ≡ Good
+passes : verdictOf (worldOn xthl (replicate 144 0)) ports rising 18 ≡ Good
 unfolding verdictOf
 passes =
     let size : length (xthl .memory) ≡ 65536 = ap suc (zeros 65535) in
@@ -39,7 +40,7 @@ passes =
 reached : Reached rising ports xthl 18 (boardOf (after 18))
 reached =
     subst (λ (x : Board). Reached rising ports xthl 18 x)
-    (same-boards rising ports 18 (worldOf xthl (replicate 144 0)) (worldOf xthl []) refl refl)
+    (same-boards rising ports 18 (worldOn xthl (replicate 144 0)) (worldOn xthl []) refl refl)
     (amid (replicate 144 0) 18 18 passes (omega arith))
 
 -- no leg begins in the states between
@@ -87,7 +88,7 @@ rises =
           ∙ not-begun j p (below inner 18 all-inner j q));
     }
 
-states : sumOf (λ j. own (after (0 + 0 + j) .machine .next)) 18 ≡ 18
+states : sumBelow (λ j. own (after (0 + 0 + j) .machine .next)) 18 ≡ 18
 unfolding everything
 states = refl
 

@@ -71,8 +71,8 @@ listed-shows line value =
 follows-shows : (s : List ℕ) (i : ℕ) → Shows (followsOf s i) (Follows s i)
 unfolding followsOf
 follows-shows s i =
-    let a = events.numberOf s i in
-    let b = events.numberOf s (i + 1) in
+    let a = events.stateNumberOf s i in
+    let b = events.stateNumberOf s (i + 1) in
     let x = lineOf s i in
     let y = lineOf s (i + 1) in
     shows-or (ltb a b) (eqb a b && ltb x y) (shows-ltb a b)

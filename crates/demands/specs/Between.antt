@@ -16,8 +16,8 @@ begins Halt = true
 begins Stop = false
 
 -- the machine is between instructions and has not stopped: "with an acknowledge's T1 next, none does"
-abbrev pub Between : Machine → Type 0
-Between m = (begins (m .next) ≡ true) × (isNone (m .kept .ack) ≡ true)
+abbrev pub Beginning : Machine → Type 0
+Beginning m = (begins (m .next) ≡ true) × (isNone (m .kept .ack) ≡ true)
 
 -- the acknowledge cycle begins
 abbrev pub Acknowledges : Machine → Type 0

@@ -14,14 +14,14 @@ use Rattle.run.specs.Run.{World, eventfulOf, runOf}
 use Rattle.demands.specs.Outside.{intIn}
 use Rattle.demands.specs.Board.{Board, boardOf}
 use Rattle.demands.specs.Own.{own}
-use Rattle.demands.specs.Between.{begins, Between, Acknowledges}
+use Rattle.demands.specs.Between.{begins, Beginning, Acknowledges}
 use Rattle.demands.specs.Legs.{opcodeAt, restartByte}
-use Rattle.demands.specs.Calls.{worldOf, Reached}
+use Rattle.demands.specs.Calls.{worldOn, Reached}
 
 -- the sum f 0 + .. + f (k - 1)
-abbrev pub sumOf : (ℕ → ℕ) → ℕ → ℕ
-sumOf f zero = 0
-sumOf f (suc k) = f 0 + sumOf (λ j. f (suc j)) k
+abbrev pub sumBelow : (ℕ → ℕ) → ℕ → ℕ
+sumBelow f zero = 0
+sumBelow f (suc k) = f 0 + sumBelow (λ j. f (suc j)) k
 
 -- the opcode op is neither EI nor DI
 abbrev pub Neither : ℕ → Type 0
@@ -41,7 +41,7 @@ underWay b = opcodeBy (b .machine .next) b
 
 -- the world after j states of a run on the board b
 abbrev pub worldAt : List ℕ → List ℕ → Board → ℕ → World
-worldAt s inputs b j = runOf s inputs j (worldOf b [])
+worldAt s inputs b j = runOf s inputs j (worldOn b [])
 
 -- of a run on the board b: what begins after a states owns the state a + i, in which INT is up with interrupts enabled, and in
 -- the k states from that one on the schedule does not lower it, and no acknowledge begins after the first of them
@@ -57,6 +57,6 @@ pub record Rises (s inputs : List ℕ) (b : Board) (a i k : ℕ) : Type 0 where
 -- so at most 18 of those k states are neither waits nor holds
 abbrev pub SoonTaken : Type 0
 SoonTaken =
-    (s inputs : List ℕ) (b b' : Board) (n : ℕ) → Reached s inputs b n b' → Between (b .machine)
+    (s inputs : List ℕ) (b b' : Board) (n : ℕ) → Reached s inputs b n b' → Beginning (b .machine)
     → (a i k : ℕ) → a + i + k ≤ n → Rises s inputs b a i k
-    → sumOf (λ j. own (worldAt s inputs b (a + i + j) .machine .next)) k ≤ 18
+    → sumBelow (λ j. own (worldAt s inputs b (a + i + j) .machine .next)) k ≤ 18

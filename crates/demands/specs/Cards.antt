@@ -40,32 +40,33 @@ abbrev pub stored : List Cell → List ℕ → List ℕ
 stored [] x = x
 stored (c ∷ cs) x = stored cs (set x (c .address) (c .byte))
 
--- the world that the card begins with, and its input ports
-abbrev pub worldOf : Card → World
-worldOf k =
-    startOf (withRegs (k .before) coldOf) (stored (k .program) (replicate 65536 0)) (replicate 256 0)
-    (replicate (8 * length (k .states)) 0)
-
+-- all ports 0
 abbrev pub ports : List ℕ
 ports = replicate 256 0
 
+-- the world that the card begins with
+abbrev pub cardWorld : Card → World
+cardWorld k =
+    startOf (withRegs (k .before) coldOf) (stored (k .program) (replicate 65536 0)) ports
+    (replicate (8 * length (k .states)) 0)
+
 -- what n rows of the trace l from the place i on show
-abbrev pub rowsOf : List ℕ → ℕ → ℕ → List Shown
-rowsOf l zero i = []
-rowsOf l (suc n) i = shown (getD l i 0) (getD l (i + 1) 0) ∷ rowsOf l n (i + 8)
+abbrev pub shownIn : List ℕ → ℕ → ℕ → List Shown
+shownIn l zero i = []
+shownIn l (suc n) i = shown (getD l i 0) (getD l (i + 1) 0) ∷ shownIn l n (i + 8)
 
 -- what the call of a card leaves
-abbrev pub leftBy : Card → World
-leftBy k = leftOf (worldOf k) ports (k .events) (length (k .states))
+abbrev pub cardLeaves : Card → World
+cardLeaves k = leftOf (cardWorld k) ports (k .events) (length (k .states))
 
 -- the call of a card is answered with 0 and all its states; registers, memory and trace are those of the card, the ports stay
 pub record Passes (k : Card) : Type 0 where
-  pub answer : answerOf (worldOf k) ports (k .events) (length (k .states))
-      ≡ Done (record { machine = leftBy k .machine; states = length (k .states) })
-  pub regs : leftBy k .machine .regs ≡ k .after
-  pub memory : leftBy k .memory ≡ stored (k .written) (worldOf k .memory)
-  pub outputs : leftBy k .outputs ≡ ports
-  pub states : rowsOf (leftBy k .trace) (length (k .states)) 0 ≡ k .states
+  pub answer : answerOf (cardWorld k) ports (k .events) (length (k .states))
+      ≡ Done (record { machine = cardLeaves k .machine; states = length (k .states) })
+  pub regs : cardLeaves k .machine .regs ≡ k .after
+  pub memory : cardLeaves k .memory ≡ stored (k .written) (cardWorld k .memory)
+  pub outputs : cardLeaves k .outputs ≡ ports
+  pub states : shownIn (cardLeaves k .trace) (length (k .states)) 0 ≡ k .states
 
 -- all cards of a list pass
 abbrev pub All : List Card → Type 0

@@ -15,24 +15,24 @@ use Rattle.run.specs.Run.{runOf}
 use Rattle.demands.specs.Manual.{Result, manual}
 use Rattle.demands.specs.Outside.{outsideOf}
 use Rattle.demands.specs.Board.{Board, boardOf}
-use Rattle.demands.specs.Between.{begins, Between, Acknowledges}
+use Rattle.demands.specs.Between.{begins, Beginning, Acknowledges}
 use Rattle.demands.specs.Rows.{Forced}
 use Rattle.demands.specs.Legs.{Tally, statesIn, opcodeAt, statesAt, courseAt, Trip}
-use Rattle.demands.specs.Calls.{worldOf, Reached}
+use Rattle.demands.specs.Calls.{worldOn, Reached}
 use Rattle.demands.specs.Costs.{Costs}
 
 -- in a run that begins between instructions, wherever the next instruction, acknowledge or halt state begins, after k states, the
 -- board is what the instructions, restarts and halt states before it make of the first, one after the other
 abbrev pub InstructionsDone : Type 0
 InstructionsDone =
-    (s inputs : List ℕ) (b b' : Board) (k : ℕ) → Reached s inputs b k b' → Between (b .machine)
+    (s inputs : List ℕ) (b b' : Board) (k : ℕ) → Reached s inputs b k b' → Beginning (b .machine)
     → begins (b' .machine .next) ≡ true → Costs (outsideOf s inputs (b .machine)) b k b'
 
 -- and whatever the schedule, the instructions, restarts and halt states that it forces are done, in the states that it forces
 abbrev pub ForcedDone : Type 0
 ForcedDone =
     (s inputs : List ℕ) (b b' : Board) (q : Tally) → Trip (outsideOf s inputs (b .machine)) b q b'
-    → b .machine .clock + statesIn q ≤ 4294967295 → boardOf (runOf s inputs (statesIn q) (worldOf b [])) ≡ b'
+    → b .machine .clock + statesIn q ≤ 4294967295 → boardOf (runOf s inputs (statesIn q) (worldOn b [])) ≡ b'
 
 -- one of them by itself, in plain words: an instruction that begins on the board b, whose opcode is defined, with w waits and h holds
 -- forced on its cycles. After its states and those, memory and output ports are what the manual says, and so are the registers,
@@ -49,4 +49,4 @@ InstructionEnds =
     → Forced (outsideOf s inputs (b .machine)) (courseAt b (opcodeAt b)) (b .machine .clock) w h
     → b .machine .clock + (statesAt b + w + h) ≤ 4294967295
     → Executed (manual (b .machine .regs) (b .memory) inputs (b .outputs) (opcodeAt b))
-    (boardOf (runOf s inputs (statesAt b + w + h) (worldOf b [])))
+    (boardOf (runOf s inputs (statesAt b + w + h) (worldOn b [])))

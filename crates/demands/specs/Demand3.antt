@@ -6,12 +6,12 @@ use Prim.Native.Nat.{ℕ}
 use mathlib.Core.List.{List}
 use Rattle.demands.specs.Outside.{outsideOf}
 use Rattle.demands.specs.Board.{Board}
-use Rattle.demands.specs.Between.{Between}
+use Rattle.demands.specs.Between.{Beginning}
 use Rattle.demands.specs.Costs.{Costs}
 use Rattle.demands.specs.Calls.{Calls}
 
 -- n is the number of states that the calls answered
 abbrev pub StatesForced : Type 0
 StatesForced =
-    (s inputs : List ℕ) (b b' : Board) (n : ℕ) → Calls s inputs b n b' → Between (b .machine) → Between (b' .machine)
+    (s inputs : List ℕ) (b b' : Board) (n : ℕ) → Calls s inputs b n b' → Beginning (b .machine) → Beginning (b' .machine)
     → Costs (outsideOf s inputs (b .machine)) b n b'

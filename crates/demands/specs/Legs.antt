@@ -14,7 +14,7 @@ use Rattle.effect.specs.declared.kept.Kept.{Kept}
 use Rattle.effect.specs.Kept.{keptFor}
 use Rattle.machine.specs.declared.record.Position.the-variants.{Fetch, Halt}
 use Rattle.machine.specs.Ending.{endedOf}
-use Rattle.demands.specs.Outside.{Outside, Moment, pass, up}
+use Rattle.demands.specs.Outside.{Outside, Moment, didTimes, up}
 use Rattle.demands.specs.Manual.{Result, manual, restart}
 use Rattle.demands.specs.States.{manualStates, restartStates}
 use Rattle.demands.specs.Rows.{Row, Forced}
@@ -79,16 +79,16 @@ courseAt b op = courseOf op (b .machine .regs .f)
 pub data Leg (E : Outside) (b : Board) : Tally → Board → Type 0 where
   instruction : (w h : ℕ) → b .machine .next ≡ Fetch → b .machine .kept ≡ keptFor None 0 → definedOf (opcodeAt b) ≡ true
       → Forced E (courseAt b (opcodeAt b)) (b .machine .clock) w h
-      → Leg E b (tally (statesAt b) w h 0) (afterwards (opcodeAt b) (manualAt E b) (pass E (statesAt b + w + h) (momentOf b)))
+      → Leg E b (tally (statesAt b) w h 0) (afterwards (opcodeAt b) (manualAt E b) (didTimes E (statesAt b + w + h) (momentOf b)))
   acknowledge : (ack : Acknowledge) (n w h : ℕ) → isNone ack ≡ false → n < 8 → b .machine .regs .inte ≡ false
       → b .machine .next ≡ Fetch → b .machine .kept ≡ keptFor ack n
       → Forced E (courseAt b (restartByte n)) (b .machine .clock) w h
       → Leg E b (tally restartStates w h 0)
-      (afterwards (restartByte n) (restartAt E b n) (pass E (restartStates + w + h) (momentOf b)))
+      (afterwards (restartByte n) (restartAt E b n) (didTimes E (restartStates + w + h) (momentOf b)))
   halt : (h : ℕ) → b .machine .next ≡ Halt → Row (up E) (b .machine .clock) h
       → Leg E b (tally 0 0 h 1)
       (afterwards 0x76 (record { regs = b .machine .regs; memory = b .memory; outputs = b .outputs })
-      (pass E (1 + h) (momentOf b)))
+      (didTimes E (1 + h) (momentOf b)))
 
 -- any number of legs, one after the other
 pub data Trip (E : Outside) : Board → Tally → Board → Type 0 where

@@ -60,6 +60,6 @@ did E t =
       clock = t .clock + 1;
     }
 
-abbrev pub pass : Outside → ℕ → Moment → Moment
-pass E zero t = t
-pass E (suc n) t = did E (pass E n t)
+abbrev pub didTimes : Outside → ℕ → Moment → Moment
+didTimes E zero t = t
+didTimes E (suc n) t = did E (didTimes E n t)

@@ -39,8 +39,8 @@ Listed line value = ((line < 2) × (value < 2)) ⊎ ((line ≡ 2) × (value < 9)
 -- "State numbers never fall; at equal state numbers the line codes rise strictly": from event i of s to the next
 abbrev pub Follows : List ℕ → ℕ → Type 0
 Follows s i =
-    (events.numberOf s i < events.numberOf s (i + 1))
-    ⊎ ((events.numberOf s i ≡ events.numberOf s (i + 1)) × (lineOf s i < lineOf s (i + 1)))
+    (events.stateNumberOf s i < events.stateNumberOf s (i + 1))
+    ⊎ ((events.stateNumberOf s i ≡ events.stateNumberOf s (i + 1)) × (lineOf s i < lineOf s (i + 1)))
 
 -- the table, 1 to 9: "Given exactly when"
 abbrev pub Given : Call → Refusal → Type 0

@@ -5,8 +5,8 @@ use mathlib.Core.List.{List, [], _∷_, _++_}
 use lib.ListN.{getD}
 use Rattle.effect.specs.Registers.{withA, withPc}
 use Rattle.machine.specs.declared.record.Position.the-variants.{Halt}
-use Rattle.demands.specs.Cards.{cell, Card, leftBy, Passes}
-use Rattle.demands.specs.Bench.{cold, fetch4, cycle, quiet}
+use Rattle.demands.specs.Cards.{cell, Card, cardLeaves, Passes}
+use Rattle.demands.specs.Bench.{cold, fetched4, cycle, quiet}
 
 -- a printed line: state code, kind, address and data
 pub record Line : Type 0 where
@@ -28,7 +28,7 @@ linesOf l (suc n) i =
 unfoldable pub sample : Card
 sample =
     quiet cold (cell 0 0x3E ∷ cell 1 0x05 ∷ cell 2 0x76 ∷ []) (withA 0x05 (withPc 0x0003 cold))
-    (fetch4 ++ cycle 2 ++ fetch4 ++ cycle 9)
+    (fetched4 ++ cycle 2 ++ fetched4 ++ cycle 9)
 
 -- what document 01 prints
 abbrev pub printed : List Line
@@ -52,5 +52,5 @@ printed =
 -- the card passes, the rows of its trace are those lines, and a halt state comes next
 pub record Sample : Type 0 where
   pub card : Passes sample
-  pub lines : linesOf (leftBy sample .trace) 14 0 ≡ printed
-  pub halts : leftBy sample .machine .next ≡ Halt
+  pub lines : linesOf (cardLeaves sample .trace) 14 0 ≡ printed
+  pub halts : cardLeaves sample .machine .next ≡ Halt

@@ -16,16 +16,16 @@ use Rattle.run.specs.Outcome.{answerOf}
 use Rattle.demands.specs.Outside.{Outside, outsideOf, down}
 use Rattle.demands.specs.Rows.{Row}
 use Rattle.demands.specs.Board.{Board}
-use Rattle.demands.specs.Between.{Between}
+use Rattle.demands.specs.Between.{Beginning}
 use Rattle.demands.specs.Legs.{Tally, statesIn, opcodeAt, Trip}
-use Rattle.demands.specs.Calls.{worldOf, givenBack}
+use Rattle.demands.specs.Calls.{worldOn, givenBack}
 
 -- calls from a board to another, each answered with 0 but the last, which is answered with 10, and their states in all
 pub data Stopping (s inputs : List ℕ) : Board → ℕ → Board → Type 0 where
-  last : {b : Board} (l : List ℕ) (n : ℕ) (r : Ran) → answerOf (worldOf b l) inputs s n ≡ Stopped r
-      → Stopping s inputs b (r .states) (givenBack (worldOf b l) inputs s n r)
-  more : {b b' : Board} {k : ℕ} (l : List ℕ) (n : ℕ) (r : Ran) → answerOf (worldOf b l) inputs s n ≡ Done r
-      → Stopping s inputs (givenBack (worldOf b l) inputs s n r) k b' → Stopping s inputs b (r .states + k) b'
+  last : {b : Board} (l : List ℕ) (n : ℕ) (r : Ran) → answerOf (worldOn b l) inputs s n ≡ Stopped r
+      → Stopping s inputs b (r .states) (givenBack (worldOn b l) inputs s n r)
+  more : {b b' : Board} {k : ℕ} (l : List ℕ) (n : ℕ) (r : Ran) → answerOf (worldOn b l) inputs s n ≡ Done r
+      → Stopping s inputs (givenBack (worldOn b l) inputs s n r) k b' → Stopping s inputs b (r .states + k) b'
 
 -- n states from the board b to the board b': legs to a board whose opcode is not defined, and then three states of its fetch, with
 -- the waits in it; PC is past the opcode, memory and ports are as they were
@@ -46,5 +46,5 @@ pub record StopsAt (E : Outside) (b : Board) (n : ℕ) (b' : Board) : Type 0 whe
 
 abbrev pub StopForced : Type 0
 StopForced =
-    (s inputs : List ℕ) (b b' : Board) (n : ℕ) → Stopping s inputs b n b' → Between (b .machine)
+    (s inputs : List ℕ) (b b' : Board) (n : ℕ) → Stopping s inputs b n b' → Beginning (b .machine)
     → StopsAt (outsideOf s inputs (b .machine)) b n b'

@@ -10,9 +10,10 @@ use Rattle.machine.specs.Record.{coldOf, withRegs}
 use Rattle.run.specs.Run.{World}
 use Rattle.demands.specs.Board.{Board, boardOf}
 use Rattle.demands.specs.Own.{own}
-use Rattle.demands.specs.Between.{Between, Acknowledges}
+use Rattle.demands.specs.Between.{Beginning, Acknowledges}
 use Rattle.demands.specs.Calls.{Reached}
-use Rattle.demands.specs.Bound.{sumOf, worldAt, Rises}
+use Rattle.demands.specs.Cards.{ports}
+use Rattle.demands.specs.Bound.{sumBelow, worldAt, Rises}
 
 -- XTHL, and all else zero
 abbrev pub xthl : Board
@@ -20,11 +21,8 @@ xthl =
     record {
       machine = withRegs (withInte true (coldOf .regs)) coldOf;
       memory = 0xE3 ∷ replicate 65535 0;
-      outputs = replicate 256 0;
+      outputs = ports;
     }
-
-abbrev pub ports : List ℕ
-ports = replicate 256 0
 
 -- state 0, INT, up with the number 5
 abbrev pub rising : List ℕ
@@ -36,8 +34,8 @@ after j = worldAt rising ports xthl j
 -- a run of 18 states from there is one of which the bound speaks; all 18 are neither waits nor holds; and then the acknowledge
 -- cycle begins
 pub record BoundMet : Type 0 where
-  pub between : Between (xthl .machine)
+  pub between : Beginning (xthl .machine)
   pub reached : Reached rising ports xthl 18 (boardOf (after 18))
   pub rises : Rises rising ports xthl 0 0 18
-  pub states : sumOf (λ j. own (after (0 + 0 + j) .machine .next)) 18 ≡ 18
+  pub states : sumBelow (λ j. own (after (0 + 0 + j) .machine .next)) 18 ≡ 18
   pub taken : Acknowledges (after 18 .machine)

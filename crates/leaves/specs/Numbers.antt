@@ -10,23 +10,23 @@ use Rattle.opcodes.specs.declared.cycle.Acknowledge.the-variants.{None}
 use Rattle.opcodes.specs.Kinds.{kindOf}
 
 -- the byte of x and its flags as one number: the byte, and 256 times the flag byte
-unfoldable pub packedOf : Flagged → ℕ
-packedOf x = x .value + 256 * flagByteOf (x .flags)
+unfoldable pub flaggedNumber : Flagged → ℕ
+flaggedNumber x = x .value + 256 * flagByteOf (x .flags)
 
 -- the operation y of ADD to CMP on a and b, with the CY of the flag byte f
 unfoldable pub leafArithmeticOf : ℕ → ℕ → ℕ → ℕ → ℕ
-leafArithmeticOf y a b f = packedOf (arithmeticOf y a b (flagsOf f .cy))
+leafArithmeticOf y a b f = flaggedNumber (arithmeticOf y a b (flagsOf f .cy))
 
 -- the operation y of RLC to CMC on a, with the flags of the flag byte f
 unfoldable pub leafAccumulatorOf : ℕ → ℕ → ℕ → ℕ
-leafAccumulatorOf y a f = packedOf (accumulatorOf y a (flagsOf f))
+leafAccumulatorOf y a f = flaggedNumber (accumulatorOf y a (flagsOf f))
 
 -- INR and DCR of v, with the CY of the flag byte f
 unfoldable pub leafInrOf : ℕ → ℕ → ℕ
-leafInrOf v f = packedOf (inrOf v (flagsOf f .cy))
+leafInrOf v f = flaggedNumber (inrOf v (flagsOf f .cy))
 
 unfoldable pub leafDcrOf : ℕ → ℕ → ℕ
-leafDcrOf v f = packedOf (dcrOf v (flagsOf f .cy))
+leafDcrOf v f = flaggedNumber (dcrOf v (flagsOf f .cy))
 
 -- the 16-bit sum s and its carry as one number: the sum, and 65,536 times the carry
 abbrev pub wholeOf : Sum16 → ℕ

@@ -5,7 +5,7 @@ ghost use Rattle.alu.specs.Words.{upOf, downOf};
 ghost use Rattle.opcodes.specs.Condition.{metOf};
 ghost use Rattle.opcodes.specs.Entries.{entryOf, codeIn, countIn, definedIn};
 ghost use Rattle.opcodes.specs.Kinds.{statusOf, statesOf};
-ghost use Rattle.leaves.specs.Numbers.{packedOf, leafArithmeticOf, leafAccumulatorOf, leafInrOf, leafDcrOf, leafDadOf, leafKindOf};
+ghost use Rattle.leaves.specs.Numbers.{flaggedNumber, leafArithmeticOf, leafAccumulatorOf, leafInrOf, leafDcrOf, leafDadOf, leafKindOf};
 use alu::flags;
 use alu::flags::Flagged;
 use alu::groups;
@@ -18,8 +18,8 @@ use opcodes::entry;
 use opcodes::table;
 
 // A byte and its flags as one number.
-fn packed(x: Flagged) -> u16
-    ensures { λ r. ⌜ r ≡ packedOf x ⌝ }
+fn flagged_number(x: Flagged) -> u16
+    ensures { λ r. ⌜ r ≡ flaggedNumber x ⌝ }
 {
     let flags = x.flags;
     (x.value as u16) + 256 * (flags::flag_byte(flags) as u16)
@@ -31,7 +31,7 @@ pub extern "C" fn leaf_arithmetic(y: u8, a: u8, b: u8, f: u8) -> u16
     ensures { λ r. ⌜ r ≡ leafArithmeticOf y a b f ⌝ }
 {
     let before = flags::flags_of(f);
-    packed(groups::arithmetic(y, a, b, before.cy))
+    flagged_number(groups::arithmetic(y, a, b, before.cy))
 }
 
 // RLC, RRC, RAL, RAR, DAA, CMA, STC, CMC for y from 0 to 7.
@@ -39,7 +39,7 @@ pub extern "C" fn leaf_arithmetic(y: u8, a: u8, b: u8, f: u8) -> u16
 pub extern "C" fn leaf_accumulator(y: u8, a: u8, f: u8) -> u16
     ensures { λ r. ⌜ r ≡ leafAccumulatorOf y a f ⌝ }
 {
-    packed(groups::accumulator(y, a, flags::flags_of(f)))
+    flagged_number(groups::accumulator(y, a, flags::flags_of(f)))
 }
 
 // INR.
@@ -48,7 +48,7 @@ pub extern "C" fn leaf_inr(v: u8, f: u8) -> u16
     ensures { λ r. ⌜ r ≡ leafInrOf v f ⌝ }
 {
     let before = flags::flags_of(f);
-    packed(sums::inr(v, before.cy))
+    flagged_number(sums::inr(v, before.cy))
 }
 
 // DCR.
@@ -57,7 +57,7 @@ pub extern "C" fn leaf_dcr(v: u8, f: u8) -> u16
     ensures { λ r. ⌜ r ≡ leafDcrOf v f ⌝ }
 {
     let before = flags::flags_of(f);
-    packed(sums::dcr(v, before.cy))
+    flagged_number(sums::dcr(v, before.cy))
 }
 
 // DAD: the sum, and 65,536 times the carry.

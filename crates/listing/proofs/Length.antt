@@ -13,8 +13,8 @@ use Rattle.laws.specs.Choice.{pick}
 use Rattle.laws.proofs.Order.{lt-or-le}
 use Rattle.listing.specs.Text.{Text, textOf, writtenOf}
 use Rattle.listing.specs.Numbers.{byteOf, decimalOf}
-use Rattle.listing.specs.Lines.{tw, hold, halt, nameOf, lineOf, lastOf}
-use Rattle.listing.specs.Listing.{beforeHaltOf, rowsOf, listingOf, Listed}
+use Rattle.listing.specs.Lines.{tw, hold, halt, nameOf, stateLineOf, lastLineOf}
+use Rattle.listing.specs.Listing.{beforeHaltOf, stateLinesOf, listingOf, Lists}
 use Rattle.listing.proofs.Decimal.{decimal-small, decimal-large}
 use Rattle.listing.proofs.Halt.{rows-within}
 use Rattle.listing.proofs.Written.{both}
@@ -59,21 +59,21 @@ name-length code h =
 abbrev pub Bytes : List ℕ → Type 0
 Bytes l = (j : ℕ) → getD l j 0 < 256
 
-line-length : (number : ℕ) (row : List ℕ) → number < 18446744073709551616 → Bytes row → length (lineOf number row) ≤ 38
-unfolding lineOf
+line-length : (number : ℕ) (row : List ℕ) → number < 18446744073709551616 → Bytes row → length (stateLineOf number row) ≤ 38
+unfolding stateLineOf
 line-length number row h b =
     simp (length-append, byte-length)
     (omega (arith, word-decimal number h, name-length (getD row 0 0) (b 0), byte-decimal (getD row 1 0) (b 1)))
 
-last-length : (a pc states : ℕ) → states < 18446744073709551616 → length (lastOf a pc states) ≤ 41
-unfolding lastOf
+last-length : (a pc states : ℕ) → states < 18446744073709551616 → length (lastLineOf a pc states) ≤ 41
+unfolding lastLineOf
 last-length a pc states h = simp (length-append, byte-length) (omega (arith, word-decimal states h))
 
 bytes-drop : (n : ℕ) (l : List ℕ) → Bytes l → Bytes (drop n l)
 bytes-drop n l b j = rw getD-drop (b (n + j))
 
-rows-length : (l : List ℕ) (i n : ℕ) → i + n < 18446744073709551616 → Bytes l → length (rowsOf l i n) ≤ 38 * n
-unfolding rowsOf
+rows-length : (l : List ℕ) (i n : ℕ) → i + n < 18446744073709551616 → Bytes l → length (stateLinesOf l i n) ≤ 38 * n
+unfolding stateLinesOf
 rows-length l i zero h b = omega arith
 rows-length l i (suc n) h b =
     rw length-append
@@ -90,8 +90,8 @@ listing-length l n a pc h b =
 
 -- the lines of the states before the halt and the last line, one after the other, are the listing
 pub listed : (l : List ℕ) (n a pc k : ℕ) (out : List ℕ) (t : Text) (r : ℕ) (out' : List ℕ) → length l < 18446744073709551616
-    → Bytes l → k ≡ beforeHaltOf l n → t ≡ writtenOf (rowsOf l 0 k) (textOf out 0) → textOf out' r ≡ writtenOf (lastOf a pc k) t
-    → Listed l n a pc out r out'
+    → Bytes l → k ≡ beforeHaltOf l n → t ≡ writtenOf (stateLinesOf l 0 k) (textOf out 0) → textOf out' r ≡ writtenOf (lastLineOf a pc k) t
+    → Lists l n a pc out r out'
 unfolding listingOf
 listed l n a pc k out t r out' h b e p q =
     let text : textOf out' r ≡ writtenOf (listingOf l n a pc) (textOf out 0) = rw (← e) (both _ _ _ p q) in

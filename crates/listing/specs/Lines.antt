@@ -37,8 +37,8 @@ unfoldable pub nameOf : ℕ → List ℕ
 nameOf code = pick (eqb code 6) tw (pick (eqb code 7) hold (pick (eqb code 8) halt (84 ∷ decimalOf code)))
 
 -- "state number (decimal), state name, kind (decimal), address (4 hex digits), data (2)", from a row of the trace
-unfoldable pub lineOf : ℕ → List ℕ → List ℕ
-lineOf number row =
+unfoldable pub stateLineOf : ℕ → List ℕ → List ℕ
+stateLineOf number row =
     decimalOf number
     ++ blank ∷ nameOf (getD row 0 0)
     ++ blank ∷ decimalOf (getD row 1 0)
@@ -48,6 +48,6 @@ lineOf number row =
     ++ feed ∷ []
 
 -- "The last line gives A, PC (hex) and the states done (decimal)"
-unfoldable pub lastOf : ℕ → ℕ → ℕ → List ℕ
-lastOf a pc states =
+unfoldable pub lastLineOf : ℕ → ℕ → ℕ → List ℕ
+lastLineOf a pc states =
     aIs ++ byteOf a ++ pcIs ++ byteOf (pc / 256) ++ byteOf (pc % 256) ++ statesAre ++ decimalOf states ++ feed ∷ []

@@ -3,9 +3,9 @@ ghost use mathlib.Core.Path.{_≡_};
 ghost use Prim.Native.Nat.{_*_, _≤_, min};
 ghost use lib.ListN.{length};
 ghost use Rattle.listing.specs.Text.{textOf, writtenOf};
-ghost use Rattle.listing.specs.Listing.{beforeHaltOf, rowsOf, Listed};
-use crate::lines::last;
-use crate::lines::line;
+ghost use Rattle.listing.specs.Listing.{beforeHaltOf, stateLinesOf, Lists};
+use crate::lines::last_line;
+use crate::lines::state_line;
 
 pub mod lines;
 mod numbers;
@@ -35,16 +35,16 @@ pub fn before_halt(trace: &[u8], states: usize) -> usize
 }
 
 // The lines of the first n states, from the start of out on.
-fn rows(out: &mut [u8], trace: &[u8], n: usize) -> usize
+fn state_lines(out: &mut [u8], trace: &[u8], n: usize) -> usize
     requires { ⌜ 8 * n ≤ length (now trace) ⌝ }
-    ensures { λ r. ⌜ textOf (now (out .exit)) r ≡ writtenOf (rowsOf (now (trace .entry)) 0 n) (textOf (now (out .entry)) 0) ⌝ }
+    ensures { λ r. ⌜ textOf (now (out .exit)) r ≡ writtenOf (stateLinesOf (now (trace .entry)) 0 n) (textOf (now (out .entry)) 0) ⌝ }
 {
     let mut at: usize = 0;
     let mut i: usize = 0;
     let mut left = n;
     while 0 < left {
         let start = 8 * i;
-        at = line(out, at, i, &trace[start..]);
+        at = state_line(out, at, i, &trace[start..]);
         i += 1;
         left -= 1;
     }
@@ -54,9 +54,9 @@ fn rows(out: &mut [u8], trace: &[u8], n: usize) -> usize
 // The listing of a trace, from the start of out on, and its length: the states before the first halt state, then A, PC and
 // the number of these states. What finds no room in out is left out; with 38 bytes a row and 41 more, all fits.
 pub fn listing(out: &mut [u8], trace: &[u8], states: usize, a: u8, pc: u16) -> usize
-    ensures { λ r. ⌜ Listed (now (trace .entry)) states a pc (now (out .entry)) r (now (out .exit)) ⌝ }
+    ensures { λ r. ⌜ Lists (now (trace .entry)) states a pc (now (out .entry)) r (now (out .exit)) ⌝ }
 {
     let n = before_halt(trace, states);
-    let at = rows(out, trace, n);
-    last(out, at, a, pc, n)
+    let at = state_lines(out, trace, n);
+    last_line(out, at, a, pc, n)
 }

@@ -2,7 +2,7 @@
 ghost use mathlib.Core.Path.{_≡_};
 ghost use lib.ListN.{getD};
 ghost use Rattle.listing.specs.Text.{textOf, writtenOf};
-ghost use Rattle.listing.specs.Lines.{nameOf, lineOf, lastOf};
+ghost use Rattle.listing.specs.Lines.{nameOf, stateLineOf, lastLineOf};
 use crate::numbers::byte;
 use crate::numbers::decimal;
 use crate::text::put;
@@ -34,8 +34,8 @@ fn field(row: &[u8], i: usize) -> u8
 
 // The line of a state, from a place of out on, and the place after it: its number, and the row of the trace that begins with
 // the given bytes. What finds no room in out is left out.
-pub fn line(out: &mut [u8], at: usize, number: usize, row: &[u8]) -> usize
-    ensures { λ r. ⌜ textOf (now (out .exit)) r ≡ writtenOf (lineOf number (now (row .entry))) (textOf (now (out .entry)) at) ⌝ }
+pub fn state_line(out: &mut [u8], at: usize, number: usize, row: &[u8]) -> usize
+    ensures { λ r. ⌜ textOf (now (out .exit)) r ≡ writtenOf (stateLineOf number (now (row .entry))) (textOf (now (out .entry)) at) ⌝ }
 {
     let numbered = decimal(out, at, number);
     let gap = put(out, numbered, b' ');
@@ -51,8 +51,8 @@ pub fn line(out: &mut [u8], at: usize, number: usize, row: &[u8]) -> usize
 }
 
 // The last line: A, PC and the states done.
-pub fn last(out: &mut [u8], at: usize, a: u8, pc: u16, states: usize) -> usize
-    ensures { λ r. ⌜ textOf (now (out .exit)) r ≡ writtenOf (lastOf a pc states) (textOf (now (out .entry)) at) ⌝ }
+pub fn last_line(out: &mut [u8], at: usize, a: u8, pc: u16, states: usize) -> usize
+    ensures { λ r. ⌜ textOf (now (out .exit)) r ≡ writtenOf (lastLineOf a pc states) (textOf (now (out .entry)) at) ⌝ }
 {
     let p = word(out, at, b"A ");
     let p = byte(out, p, a);

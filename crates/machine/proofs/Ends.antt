@@ -31,27 +31,27 @@ use Rattle.machine.specs.declared.record.Machine.{Machine}
 use Rattle.machine.specs.Record.{withNext, withRegs}
 use Rattle.machine.specs.Cycle.{cyclesOf}
 use Rattle.machine.specs.Ending.{takesOf, acknowledgeOf, clearOf, isHlt, endedOf, followOf, holds, holdOf, endOf}
-use Rattle.machine.specs.Well.{fixedOf, listedOf, thereOf, doneOf, idleOf, readOf, bytesOf}
+use Rattle.machine.specs.Well.{fixedOf, levelsListed, thereOf, cyclesDone, idleOf, zeroOrRead, bytesOf}
 use Rattle.machine.proofs.Parts.{Well, ReadyAt, cyclesIn, well-of, next-well}
 use Rattle.machine.proofs.Exists.{Follows, one-all, start-there}
 
 -- nothing is kept, and p is next, which exists for opcode 0
-pub clear-well : (m : Machine) (p : Position) → T (fixedOf (m .regs .f)) → T (listedOf (m .lines))
+pub clear-well : (m : Machine) (p : Position) → T (fixedOf (m .regs .f)) → T (levelsListed (m .lines))
     → T (thereOf 0 (cyclesOf 0 (m .regs .f)) p) → Well (clearOf p m)
-unfolding clearOf keptFor bytesOf readOf cycling
+unfolding clearOf keptFor bytesOf zeroOrRead cycling
 clear-well m p f l t =
     well-of (clearOf p m)
     record { ready = record { fixed = f; listed = l; defined = tt; named = tt; bytes = tt }; there = t; awake = tt }
 
 -- the lines with INT down
-lowered : (l : Lines) → T (listedOf l) → T (leb (l .ready) 1 && leb (l .hold) 1 && true)
-unfolding listedOf
+lowered : (l : Lines) → T (levelsListed l) → T (leb (l .ready) 1 && leb (l .hold) 1 && true)
+unfolding levelsListed
 lowered l t = search (and-both, and-left)
 
 -- an acknowledge is next, of the number that INT had
-acknowledge-well : (m : Machine) (a : Acknowledge) → isNone a ≡ false → T (fixedOf (m .regs .f)) → T (listedOf (m .lines))
+acknowledge-well : (m : Machine) (a : Acknowledge) → isNone a ≡ false → T (fixedOf (m .regs .f)) → T (levelsListed (m .lines))
     → m .lines .int < 8 → Well (acknowledgeOf a m)
-unfolding acknowledgeOf keptFor listedOf thereOf idleOf doneOf bytesOf readOf cycling
+unfolding acknowledgeOf keptFor levelsListed thereOf idleOf cyclesDone bytesOf zeroOrRead cycling
 acknowledge-well m a e f l i =
     well-of (acknowledgeOf a m)
     record {
@@ -74,7 +74,7 @@ unfolding takesOf
 taken-up m e = let t = true→T (takesOf m) e in search (ltb→lt, and-left)
 
 -- the instruction is over
-ended-well : (m : Machine) → T (fixedOf (m .regs .f)) → T (listedOf (m .lines)) → Well (endedOf m)
+ended-well : (m : Machine) → T (fixedOf (m .regs .f)) → T (levelsListed (m .lines)) → Well (endedOf m)
 unfolding endedOf thereOf
 ended-well m f l =
     pick-both Well (takesOf m) (acknowledgeOf (pick (isHlt m) Halted Running) m) (clearOf (pick (isHlt m) Halt Fetch) m)
@@ -88,7 +88,7 @@ ended-well m f l =
 
 -- the cycle c and its holds are over; n is the cycle after it
 follow-well : (c n : ℕ) (m : Machine) → 1 ≤ c → ReadyAt m c → Follows (cyclesIn m) c n → Well (followOf n m)
-unfolding followOf doneOf idleOf cyclesOf
+unfolding followOf cyclesDone idleOf cyclesOf
 follow-well c n m l r s =
     pick-both Well (eqb n 0) (endedOf m) (withNext (Later n 1) m) (λ e. ended-well m (r .fixed) (r .listed))
     (λ (e : eqb n 0 ≡ false).
@@ -100,7 +100,7 @@ follow-well c n m l r s =
 -- all changes of the cycle are made
 pub hold-well : (c n : ℕ) (m : Machine) → 1 ≤ c → c ≤ cyclesIn m → ReadyAt m c → Follows (cyclesIn m) c n
     → Well (holdOf c n m)
-unfolding holdOf thereOf doneOf idleOf
+unfolding holdOf thereOf cyclesDone idleOf
 hold-well c n m l o r s =
     pick-both Well (holds m) (withNext (Hold c) m) (followOf n m)
     (λ e. next-well m (Hold c) r (one-all (cyclesIn m) c l o) tt)

@@ -18,7 +18,7 @@ use Rattle.machine.specs.Record.{withClock}
 use Rattle.machine.specs.Step.{stepOf}
 use Rattle.machine.specs.Look.{placeOf, shownOf, lookAt, lookOf}
 use Rattle.machine.specs.Request.{restartOf, askedOf, requestOf}
-use Rattle.machine.specs.Well.{doneOf, wellOf}
+use Rattle.machine.specs.Well.{cyclesDone, wellOf}
 use Rattle.machine.proofs.Parts.{Parts, parts-of}
 use Rattle.machine.proofs.Bytes.{bytes-each}
 use Rattle.machine.proofs.Ready.{Names}
@@ -38,7 +38,7 @@ asks-restart m e o (inr k) = rw (e, o, k)
 
 -- before T3 of a fetch is over the opcode kept is 0
 unread : (m : Machine) → m .next ≡ Later 1 3 → Parts m (m .next) → m .kept .opcode ≡ 0
-unfolding doneOf
+unfolding cyclesDone
 unread m e p =
     let b = bytes-each (m .kept) 0 (rw e at (p .ready .bytes)) .0 in
     ⊎-elim (λ (z : T (eqb (m .kept .opcode) 0)). eqb→eq (m .kept .opcode) 0 z) (λ z. absurd z)

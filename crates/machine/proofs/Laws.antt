@@ -10,11 +10,11 @@ use Rattle.machine.specs.declared.record.Position.the-variants.{Fetch, L
 use Rattle.machine.specs.declared.record.Machine.{Machine}
 use Rattle.machine.specs.Record.{coldOf, tickedOf, withClock}
 use Rattle.machine.specs.Step.{movedOf, stepOf}
-use Rattle.machine.specs.Well.{fixedOf, listedOf, thereOf, doneOf, ackedOf, bytesOf, readOf, idleOf, wellOf}
+use Rattle.machine.specs.Well.{fixedOf, levelsListed, thereOf, cyclesDone, ackedOf, bytesOf, zeroOrRead, idleOf, wellOf}
 
 -- the cold machine is well formed
 pub cold-well : T (wellOf coldOf)
-unfolding coldOf keptFor wellOf fixedOf listedOf thereOf doneOf ackedOf bytesOf readOf idleOf cycling
+unfolding coldOf keptFor wellOf fixedOf levelsListed thereOf cyclesDone ackedOf bytesOf zeroOrRead idleOf cycling
 cold-well = tt
 
 -- the clock counts at every position but a stop

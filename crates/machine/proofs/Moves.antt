@@ -23,7 +23,7 @@ use Rattle.machine.specs.Cycle.{cyclesOf, cycleOf}
 use Rattle.machine.specs.Ending.{endOf}
 use Rattle.machine.specs.Step.{secondOf, thirdOf, onwardOf, laterOf, haltedOf, movedOf}
 use Rattle.machine.specs.Request.{restartOf}
-use Rattle.machine.specs.Well.{oneOf, thereOf, doneOf, idleOf}
+use Rattle.machine.specs.Well.{oneOf, thereOf, cyclesDone, idleOf}
 use Rattle.machine.proofs.Parts.{Well, ReadyAt, cyclesIn, There, Parts, next-well}
 use Rattle.machine.proofs.Ready.{Names, ready-first}
 use Rattle.machine.proofs.Exists.{one-each, later-each, second-there, after-follows}
@@ -31,25 +31,25 @@ use Rattle.machine.proofs.Ends.{hold-well, end-well}
 use Rattle.machine.proofs.States.{three-in, wait-well, second-well, onward-well, third-well}
 
 -- how many cycles have read before T4, and from T4 on
-early : (c s : ℕ) → s ≤ 3 → doneOf (Later c s) ≡ c - 1
-unfolding doneOf
+early : (c s : ℕ) → s ≤ 3 → cyclesDone (Later c s) ≡ c - 1
+unfolding cyclesDone
 early c s l = rw (le-leb s 3 l)
 
-late : (c s : ℕ) → 4 ≤ s → doneOf (Later c s) ≡ c
-unfolding doneOf
+late : (c s : ℕ) → 4 ≤ s → cyclesDone (Later c s) ≡ c
+unfolding cyclesDone
 late c s l = rw (lt-leb s 3 l)
 
 -- state s of cycle c
-later-well : (v c s : ℕ) (m : Machine) → ReadyAt m (doneOf (Later c s)) → There m (Later c s)
+later-well : (v c s : ℕ) (m : Machine) → ReadyAt m (cyclesDone (Later c s)) → There m (Later c s)
     → (c ≡ 1 → s ≡ 3 → Names v (m .kept))
     → Well (laterOf (cycleOf (m .kept .opcode) (m .regs .f) c) c s (definedOf v) v m)
-unfolding laterOf cycleOf doneOf idleOf
+unfolding laterOf cycleOf cyclesDone idleOf
 later-well v c s m r t a =
     let op = m .kept .opcode in
     let y = cycleOf op (m .regs .f) c in
     let n = cyclesIn m in
     let (l, o, g, h) = later-each op n c s t in
-    let three = three-in m c (doneOf (Later c s)) r o in
+    let three = three-in m c (cyclesDone (Later c s)) r o in
     let before : s ≤ 3 → ReadyAt m (c - 1) = λ z. subst (ReadyAt m) (early c s z) r in
     let done : 4 ≤ s → ReadyAt m c = λ z. subst (ReadyAt m) (late c s z) r in
     let last : Machine = endOf c (y .after) m in
@@ -87,7 +87,7 @@ halted-well m r a =
 -- the state at a position, the clock apart
 pub moved-well : (p : Position) (v : ℕ) (m : Machine) → Well m → Parts m p → (p ≡ Later 1 3 → Names v (m .kept))
     → Well (movedOf p v m)
-unfolding movedOf cycleOf thereOf doneOf idleOf cyclesOf
+unfolding movedOf cycleOf thereOf cyclesDone idleOf cyclesOf
 moved-well Fetch v m w p a =
     let op = m .kept .opcode in
     let some = count-some op (p .ready .defined) (metOf op (m .regs .f)) in

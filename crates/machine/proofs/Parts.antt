@@ -14,7 +14,7 @@ use Rattle.machine.specs.declared.record.Machine.{Machine}
 use Rattle.machine.specs.Record.{withNext}
 use Rattle.machine.specs.Cycle.{cyclesOf}
 use Rattle.machine.specs.Request.{restartOf}
-use Rattle.machine.specs.Well.{fixedOf, listedOf, thereOf, doneOf, idleOf, ackedOf, bytesOf, wellOf}
+use Rattle.machine.specs.Well.{fixedOf, levelsListed, thereOf, cyclesDone, idleOf, ackedOf, bytesOf, wellOf}
 
 -- the acknowledge named and the number taken are right where d cycles have read
 abbrev pub nameOf : Kept → ℕ → Bool
@@ -26,7 +26,7 @@ nameOf k d =
 -- the flag byte f, the lines l and what is kept, k, are right where d cycles have read
 pub record Ready (f : ℕ) (l : Lines) (k : Kept) (d : ℕ) : Type 0 where
   pub fixed : T (fixedOf f)
-  pub listed : T (listedOf l)
+  pub listed : T (levelsListed l)
   pub defined : T (definedOf (k .opcode))
   pub named : T (nameOf k d)
   pub bytes : T (bytesOf k d)
@@ -51,7 +51,7 @@ Well m = T (wellOf m)
 
 -- all of it at the position p
 pub record Parts (m : Machine) (p : Position) : Type 0 where
-  pub ready : ReadyAt m (doneOf p)
+  pub ready : ReadyAt m (cyclesDone p)
   pub there : There m p
   pub awake : Awake m p
 
@@ -65,7 +65,7 @@ unfolding wellOf ackedOf
 well-of m p = search and-both depth 8
 
 -- a record with the rest right becomes well formed at a position that exists and is no halt state and no stop
-pub next-well : (m : Machine) (p : Position) → ReadyAt m (doneOf p) → There m p → T (not (idleOf p)) → Well (withNext p m)
+pub next-well : (m : Machine) (p : Position) → ReadyAt m (cyclesDone p) → There m p → T (not (idleOf p)) → Well (withNext p m)
 unfolding withNext
 next-well m p r t i =
     well-of (withNext p m)

@@ -21,7 +21,7 @@ use Rattle.machine.specs.Record.{withNext, withRegs, withKept}
 use Rattle.machine.specs.Cycle.{cyclesOf, cycleOf}
 use Rattle.machine.specs.Ending.{clearOf, endOf}
 use Rattle.machine.specs.Step.{risenOf, waitOf, secondOf, fetchedOf, onwardOf, tookOf, thirdOf}
-use Rattle.machine.specs.Well.{oneOf, thereOf, doneOf, idleOf}
+use Rattle.machine.specs.Well.{oneOf, thereOf, cyclesDone, idleOf}
 use Rattle.machine.proofs.Parts.{Well, ReadyAt, cyclesIn, next-well}
 use Rattle.machine.proofs.Ready.{Names, ready-more, ready-took, ready-first}
 use Rattle.machine.proofs.Exists.{one-all, second-there, after-follows}
@@ -35,7 +35,7 @@ three-in m c d r l = states-three (m .kept .opcode) (r .defined) (metOf (m .kept
 -- after T2 or a wait, where c - 1 cycles have read; READY counts only where the cycle waits
 pub wait-well : (b : Bool) (c : ℕ) (m : Machine) → 1 ≤ c → c ≤ cyclesIn m → ReadyAt m (c - 1)
     → (T b → T (waitsOf (codeOf (m .kept .opcode) c))) → Well (waitOf b c m)
-unfolding waitOf thereOf doneOf idleOf
+unfolding waitOf thereOf cyclesDone idleOf
 wait-well b c m l o r w =
     pick-both (λ (p : Position). Well (withNext p m)) (b && eqb (m .lines .ready) 0) (Wait c) (Later c 3)
     (λ (e : (b && eqb (m .lines .ready) 0) ≡ true).
@@ -59,7 +59,7 @@ second-well c m l o r =
 pub onward-well : (c s : ℕ) (m : Machine) → 1 ≤ c → c ≤ cyclesIn m → ReadyAt m c
     → 3 ≤ s → s ≤ statesOf (codeOf (m .kept .opcode) c)
     → Well (onwardOf (cycleOf (m .kept .opcode) (m .regs .f) c) c s m)
-unfolding onwardOf cycleOf doneOf idleOf
+unfolding onwardOf cycleOf cyclesDone idleOf
 onward-well c s m l o r h g =
     let code = codeOf (m .kept .opcode) c in
     pick-both Well (eqb (statesOf code) s) (endOf c (cycleOf (m .kept .opcode) (m .regs .f) c .after) m)
@@ -72,7 +72,7 @@ onward-well c s m l o r h g =
 
 -- T3 of a fetch
 fetched-well : (v : ℕ) (m : Machine) → ReadyAt m 0 → Names v (m .kept) → Well (fetchedOf (definedOf v) v m)
-unfolding fetchedOf withKept keepOf cyclesOf thereOf doneOf idleOf
+unfolding fetchedOf withKept keepOf cyclesOf thereOf cyclesDone idleOf
 fetched-well v m r a =
     pick-both Well (definedOf v) (withNext (Later 1 4) (withKept (keepOf 1 v (m .kept)) m)) (clearOf Stop m)
     (λ (e : definedOf v ≡ true).

@@ -19,8 +19,8 @@ unfoldable pub fixedOf : ℕ → Bool
 fixedOf f = eqb (f / 32 % 2) 0 && eqb (f / 8 % 2) 0 && eqb (f / 2 % 2) 1
 
 -- "a line has an unlisted value"
-unfoldable pub listedOf : Lines → Bool
-listedOf l = leb (l .ready) 1 && leb (l .hold) 1 && leb (l .int) 8
+unfoldable pub levelsListed : Lines → Bool
+levelsListed l = leb (l .ready) 1 && leb (l .hold) 1 && leb (l .int) 8
 
 -- cycle c is one of n
 unfoldable pub oneOf : ℕ → ℕ → Bool
@@ -40,13 +40,13 @@ thereOf op n Halt = true
 thereOf op n Stop = true
 
 -- how many cycles have read what they read: from T4 and in a hold this one too
-unfoldable pub doneOf : Position → ℕ
-doneOf Fetch = 0
-doneOf (Later c s) = pick (leb s 3) (c - 1) c
-doneOf (Wait c) = c - 1
-doneOf (Hold c) = c
-doneOf Halt = 0
-doneOf Stop = 0
+unfoldable pub cyclesDone : Position → ℕ
+cyclesDone Fetch = 0
+cyclesDone (Later c s) = pick (leb s 3) (c - 1) c
+cyclesDone (Wait c) = c - 1
+cyclesDone (Hold c) = c
+cyclesDone Halt = 0
+cyclesDone Stop = 0
 
 -- a halt state or a stop is next
 unfoldable pub idleOf : Position → Bool
@@ -61,29 +61,29 @@ idleOf Stop = true
 -- 0 without an acknowledge; an acknowledge is named with a halt state or a stop next"
 unfoldable pub ackedOf : Kept → Position → Bool
 ackedOf k p =
-    (isNone (k .ack) || eqb (doneOf p) 0 || eqb (k .opcode) (restartOf k))
+    (isNone (k .ack) || eqb (cyclesDone p) 0 || eqb (k .opcode) (restartOf k))
     && leb (k .rst) 7
     && (not (isNone (k .ack)) || eqb (k .rst) 0)
     && (isNone (k .ack) || not (idleOf p))
 
 -- the byte b of cycle c is 0, or was read: the cycle is one of the first d, and reads
-unfoldable pub readOf : ℕ → ℕ → ℕ → ℕ → Bool
-readOf op d c b = eqb b 0 || (leb c d && readsOf (codeOf op c))
+unfoldable pub zeroOrRead : ℕ → ℕ → ℕ → ℕ → Bool
+zeroOrRead op d c b = eqb b 0 || (leb c d && readsOf (codeOf op c))
 
 -- "a byte not yet read, or any kept byte when a fetch's T1, a halt state or a stop is next, isn't zero"; d cycles have read
 unfoldable pub bytesOf : Kept → ℕ → Bool
 bytesOf k d =
     (eqb (k .opcode) 0 || leb 1 d)
-    && readOf (k .opcode) d 2 (k .b1)
-    && readOf (k .opcode) d 3 (k .b2)
-    && readOf (k .opcode) d 4 (k .b3)
-    && readOf (k .opcode) d 5 (k .b4)
+    && zeroOrRead (k .opcode) d 2 (k .b1)
+    && zeroOrRead (k .opcode) d 3 (k .b2)
+    && zeroOrRead (k .opcode) d 4 (k .b3)
+    && zeroOrRead (k .opcode) d 5 (k .b4)
 
 unfoldable pub wellOf : Machine → Bool
 wellOf m =
     fixedOf (m .regs .f)
-    && listedOf (m .lines)
+    && levelsListed (m .lines)
     && definedOf (m .kept .opcode)
     && thereOf (m .kept .opcode) (cyclesOf (m .kept .opcode) (m .regs .f)) (m .next)
     && ackedOf (m .kept) (m .next)
-    && bytesOf (m .kept) (doneOf (m .next))
+    && bytesOf (m .kept) (cyclesDone (m .next))

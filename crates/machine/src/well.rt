@@ -2,8 +2,8 @@
 ghost use mathlib.Core.Path.{_≡_};
 ghost use Prim.Native.Nat.{_-_};
 ghost use Rattle.opcodes.specs.Entries.{entries};
-ghost use Rattle.machine.specs.Well.{fixedOf, listedOf, oneOf, isState, thereOf, doneOf, idleOf, ackedOf};
-ghost use Rattle.machine.specs.Well.{readOf, bytesOf, wellOf};
+ghost use Rattle.machine.specs.Well.{fixedOf, levelsListed, oneOf, isState, thereOf, cyclesDone, idleOf, ackedOf};
+ghost use Rattle.machine.specs.Well.{zeroOrRead, bytesOf, wellOf};
 use crate::cycle::code_at;
 use crate::cycle::cycles;
 use crate::cycle::is_defined;
@@ -25,8 +25,8 @@ pub fn fixed(f: u8) -> bool
 }
 
 // The values that lines may have.
-pub fn listed(l: Lines) -> bool
-    ensures { λ b. ⌜ b ≡ listedOf l ⌝ }
+pub fn levels_listed(l: Lines) -> bool
+    ensures { λ b. ⌜ b ≡ levelsListed l ⌝ }
 {
     (l.ready <= 1) & (l.hold <= 1) & (l.int <= 8)
 }
@@ -70,8 +70,8 @@ fn less(c: u8) -> u8
 }
 
 // How many cycles have read what they read.
-fn done(p: Position) -> u8
-    ensures { λ d. ⌜ d ≡ doneOf p ⌝ }
+fn cycles_done(p: Position) -> u8
+    ensures { λ d. ⌜ d ≡ cyclesDone p ⌝ }
 {
     match p {
         Position::Fetch => 0,
@@ -103,16 +103,16 @@ fn acked(k: Kept, p: Position) -> bool
 {
     let ack = k.ack;
     let none = is_none(ack);
-    (none | (done(p) == 0) | (k.opcode == restart(k)))
+    (none | (cycles_done(p) == 0) | (k.opcode == restart(k)))
         & (k.rst <= 7)
         & (!none | (k.rst == 0))
         & (none | !idle(p))
 }
 
 // The byte b of cycle c is 0 or was read.
-fn read(t: &[u64; 256], op: u8, d: u8, c: u8, b: u8) -> bool
+fn zero_or_read(t: &[u64; 256], op: u8, d: u8, c: u8, b: u8) -> bool
     requires { ⌜ now t ≡ entries ⌝ }
-    ensures { λ v. ⌜ v ≡ readOf op d c b ⌝ }
+    ensures { λ v. ⌜ v ≡ zeroOrRead op d c b ⌝ }
 {
     (b == 0) | ((c <= d) & reads(code_at(t, op, c)))
 }
@@ -124,10 +124,10 @@ fn bytes(t: &[u64; 256], k: Kept, d: u8) -> bool
 {
     let op = k.opcode;
     ((op == 0) | (1 <= d))
-        & read(t, op, d, 2, k.b1)
-        & read(t, op, d, 3, k.b2)
-        & read(t, op, d, 4, k.b3)
-        & read(t, op, d, 5, k.b4)
+        & zero_or_read(t, op, d, 2, k.b1)
+        & zero_or_read(t, op, d, 3, k.b2)
+        & zero_or_read(t, op, d, 4, k.b3)
+        & zero_or_read(t, op, d, 5, k.b4)
 }
 
 impl Machine {
@@ -141,11 +141,11 @@ impl Machine {
         let lines = self.lines;
         let next = self.next;
         fixed(regs.f)
-            & listed(lines)
+            & levels_listed(lines)
             & is_defined(t, kept.opcode)
             & there(t, kept.opcode, cycles(t, kept.opcode, regs.f), next)
             & acked(kept, next)
-            & bytes(t, kept, done(next))
+            & bytes(t, kept, cycles_done(next))
     }
 
     // Whether the record is well formed.

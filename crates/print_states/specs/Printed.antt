@@ -15,19 +15,19 @@ use Rattle.listing.specs.Listing.{listingOf}
 abbrev pub beginOf : List ℕ → World
 beginOf x = startOf coldOf x (replicate 256 0) (replicate 32768 0)
 
-unfoldable pub worldOf : List ℕ → World
-worldOf x = leftOf (beginOf x) (replicate 256 0) [] 4096
+unfoldable pub worldAfter : List ℕ → World
+worldAfter x = leftOf (beginOf x) (replicate 256 0) [] 4096
 
-unfoldable pub doneOf : List ℕ → Ran
-doneOf x = ranOf (answerOf (beginOf x) (replicate 256 0) [] 4096)
+unfoldable pub ranAfter : List ℕ → Ran
+ranAfter x = ranOf (answerOf (beginOf x) (replicate 256 0) [] 4096)
 
 -- its listing
 unfoldable pub printedOf : List ℕ → List ℕ
-printedOf x = listingOf (worldOf x .trace) (doneOf x .states) (doneOf x .machine .regs .a) (doneOf x .machine .regs .pc)
+printedOf x = listingOf (worldAfter x .trace) (ranAfter x .states) (ranAfter x .machine .regs .a) (ranAfter x .machine .regs .pc)
 
 -- the run leaves x' of memory x; its listing, written from the start of the bytes o on, gives o' and ends at r, and is there
 -- whole where o has 155,689 bytes
 pub record Printed (x o : List ℕ) (r : ℕ) (x' o' : List ℕ) : Type 0 where
-  pub memory : x' ≡ worldOf x .memory
+  pub memory : x' ≡ worldAfter x .memory
   pub text : textOf o' r ≡ writtenOf (printedOf x) (textOf o 0)
   pub whole : 155689 ≤ length o → (r ≡ length (printedOf x)) × (o' ≡ printedOf x ++ drop r o)

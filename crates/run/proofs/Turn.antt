@@ -11,7 +11,7 @@ use Rattle.machine.specs.declared.record.Position.the-variants.{Stop}
 use Rattle.machine.specs.declared.record.Machine.{Machine}
 use Rattle.machine.specs.Record.{withLines}
 use Rattle.machine.proofs.Laws.{clock-rises}
-use Rattle.schedule.specs.Events.{numberOf}
+use Rattle.schedule.specs.Events.{stateNumberOf}
 use Rattle.schedule.specs.Levels.{levelsAt}
 use Rattle.run.specs.State.{After}
 use Rattle.run.specs.Run.{World, stoppedOf, eventfulOf, stateOf, runOf}
@@ -31,7 +31,7 @@ pub record Going (x₀ i o₀ s l₀ : List ℕ) (n : ℕ) (m₀ : Machine) (x o
   pub run : runOf s i left (world cur x o l k) ≡ runOf s i n (startOf m₀ x₀ o₀ l₀)
   pub time : cur .clock + left ≤ 4294967295
   pub within : from ≤ length s / 6
-  pub past : (j : ℕ) → j < from → numberOf s j < cur .clock
+  pub past : (j : ℕ) → j < from → stateNumberOf s j < cur .clock
 
 -- a state of the machine m, as `state` leaves it, is the definition's
 state-world : (c m n : Machine) (x i o l : List ℕ) (k : ℕ) (x' o' l' : List ℕ) → After m x i o l (8 * k) n x' o' l'

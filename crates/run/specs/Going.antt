@@ -4,7 +4,7 @@ use mathlib.Core.Path.{_≡_}
 use mathlib.Core.List.{List}
 use lib.ListN.{length}
 use Rattle.machine.specs.declared.record.Machine.{Machine}
-use Rattle.schedule.specs.Events.{numberOf}
+use Rattle.schedule.specs.Events.{stateNumberOf}
 use Rattle.run.specs.declared.answer.Ran.{Ran}
 use Rattle.run.specs.Run.{World, runOf}
 use Rattle.run.specs.Outcome.{startOf, ranIn}
@@ -14,7 +14,7 @@ pub record Fit (m : Machine) (x i o s l : List ℕ) (n : ℕ) : Type 0 where
   pub memory : length x ≡ 65536
   pub inputs : length i ≡ 256
   pub outputs : length o ≡ 256
-  pub sorted : (j k : ℕ) → j ≤ k → k < length s / 6 → numberOf s j ≤ numberOf s k
+  pub sorted : (j k : ℕ) → j ≤ k → k < length s / 6 → stateNumberOf s j ≤ stateNumberOf s k
   pub few : n ≤ 8192
   pub room : 8 * n ≤ length l
   pub time : m .clock + n ≤ 4294967295

@@ -15,7 +15,7 @@ use Rattle.effect.specs.Kept.{keptFor}
 use Rattle.machine.specs.declared.record.Position.{Position}
 use Rattle.machine.specs.declared.record.Position.the-variants.{Fetch, Later, Wait, Hold, Halt, Stop}
 use Rattle.machine.specs.declared.record.Machine.{Machine}
-use Rattle.machine.specs.Well.{doneOf, idleOf, readOf, bytesOf, wellOf}
+use Rattle.machine.specs.Well.{cyclesDone, idleOf, zeroOrRead, bytesOf, wellOf}
 use Rattle.machine.proofs.Parts.{nameOf, parts-of}
 use Rattle.machine.proofs.Bytes.{bytes-each}
 use Rattle.saved.specs.Header.{fetchMode, modeOf, betweenOf}
@@ -38,7 +38,7 @@ no-name Halted t = absurd t
 
 -- nothing is kept where no acknowledge is named and no cycle has read
 nothing : (k : Kept) → T (isNone (k .ack)) → T (nameOf k 0) → T (bytesOf k 0) → k ≡ keptFor None 0
-unfolding keptFor readOf
+unfolding keptFor zeroOrRead
 nothing k a n b =
     let five = bytes-each k 0 b in
     λ i.
@@ -60,9 +60,9 @@ fetch-none Running e = true→T false e
 fetch-none Halted e = true→T false e
 
 -- between instructions no acknowledge is named and no cycle has read
-kept-at : (k : Kept) (p : Position) → ltb (modeOf k p) 3 ≡ true → T (nameOf k (doneOf p)) → T (bytesOf k (doneOf p))
+kept-at : (k : Kept) (p : Position) → ltb (modeOf k p) 3 ≡ true → T (nameOf k (cyclesDone p)) → T (bytesOf k (cyclesDone p))
     → T (isNone (k .ack) || not (idleOf p)) → k ≡ keptFor None 0
-unfolding modeOf doneOf idleOf
+unfolding modeOf cyclesDone idleOf
 kept-at k Fetch e n b w = nothing k (fetch-none (k .ack) e) n b
 kept-at k (Later c s) e n b w = absurd (false≢true e)
 kept-at k (Wait c) e n b w = absurd (false≢true e)

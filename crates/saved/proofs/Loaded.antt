@@ -20,7 +20,7 @@ use Rattle.machine.specs.declared.record.Position.{Position}
 use Rattle.machine.specs.declared.record.Position.the-variants.{Fetch, Halt, Stop}
 use Rattle.machine.specs.Cycle.{cyclesOf}
 use Rattle.machine.specs.Ending.{clearOf}
-use Rattle.machine.specs.Well.{fixedOf, listedOf, thereOf, wellOf}
+use Rattle.machine.specs.Well.{fixedOf, levelsListed, thereOf, wellOf}
 use Rattle.machine.proofs.Ends.{clear-well}
 use Rattle.saved.specs.Header.{fetchMode, modeOf, betweenOf, headerOf, savedOf}
 use Rattle.saved.specs.Fields.{wordAt, longAt, registersIn, linesIn, positionOf, machineIn, portsIn, memoryIn, inRange}
@@ -31,7 +31,7 @@ pub record Ranged (s : List ℕ) : Type 0 where
   pub fixed : T (fixedOf (getD s 1 0))
   pub inte : T (leb (getD s 12 0) 1)
   pub mode : T (leb (getD s 13 0) 2)
-  pub listed : T (listedOf (linesIn s))
+  pub listed : T (levelsListed (linesIn s))
   pub first : T (eqb (getD s 21 0) 0)
   pub second : T (eqb (getD s 22 0) 0)
   pub third : T (eqb (getD s 23 0) 0)

@@ -13,9 +13,9 @@ use Rattle.saved.specs.declared.answer.Loading.the-variants as loading
 use Rattle.saved.specs.Header.{savedOf}
 use Rattle.saved.specs.Fields.{machineIn, portsIn, memoryIn}
 use Rattle.saved.specs.Check.{saveVerdict, loadVerdict}
-use Rattle.saved.specs.Outcome.{leftBy, savingBy, loadingBy, Saves, Loads}
+use Rattle.saved.specs.Outcome.{filledBy, savingBy, loadingBy, Saves, Loads}
 
-unsaved : (v : Verdict) (r : Refusal) (after before : List ℕ) → saving.Refused r ≡ savingBy v → leftBy v after before ≡ before
+unsaved : (v : Verdict) (r : Refusal) (after before : List ℕ) → saving.Refused r ≡ savingBy v → filledBy v after before ≡ before
 unsaved verdict.Good r after before e = absurd (let z : _≡_ {A = ℕ} 0 1 = cc in let no : ⊥ = omega arith in no)
 unsaved (verdict.Refused q) r after before e = refl
 
@@ -23,7 +23,7 @@ pub save-refused : (m : Machine) (x o z z' : List ℕ) (r : Refusal) → Saves m
 save-refused m x o z z' r s = s .out ∙ unsaved (saveVerdict m (length x) (length o) (length z)) r (savedOf m o x) z (s .answer)
 
 module _ (r : Refusal) (m n k : Machine) where
-  unloaded : (v : Verdict) (after before : List ℕ) → loading.Refused r n ≡ loadingBy v k m → leftBy v after before ≡ before
+  unloaded : (v : Verdict) (after before : List ℕ) → loading.Refused r n ≡ loadingBy v k m → filledBy v after before ≡ before
   unloaded verdict.Good after before e = absurd (let z : _≡_ {A = ℕ} 0 1 = cc in let no : ⊥ = omega arith in no)
   unloaded (verdict.Refused q) after before e = refl
 

@@ -13,7 +13,7 @@ use Rattle.machine.specs.declared.record.Lines.{Lines}
 use Rattle.machine.specs.declared.record.Position.{Position}
 use Rattle.machine.specs.declared.record.Position.the-variants.{Fetch, Halt, Stop}
 use Rattle.machine.specs.declared.record.Machine.{Machine}
-use Rattle.machine.specs.Well.{fixedOf, listedOf}
+use Rattle.machine.specs.Well.{fixedOf, levelsListed}
 
 -- the two bytes and the four bytes from i on, low first
 unfoldable pub wordAt : List ℕ → ℕ → ℕ
@@ -71,7 +71,7 @@ inRange s =
     fixedOf (getD s 1 0)
     && leb (getD s 12 0) 1
     && leb (getD s 13 0) 2
-    && listedOf (linesIn s)
+    && levelsListed (linesIn s)
     && eqb (getD s 21 0) 0
     && eqb (getD s 22 0) 0
     && eqb (getD s 23 0) 0

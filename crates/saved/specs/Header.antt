@@ -32,16 +32,16 @@ unfoldable pub betweenOf : Machine → Bool
 betweenOf m = ltb (modeOf (m .kept) (m .next)) 3
 
 -- a number of two bytes and one of four, low first
-abbrev pub word : ℕ → List ℕ
-word v = v % 256 ∷ v / 256 ∷ []
+abbrev pub twoBytes : ℕ → List ℕ
+twoBytes v = v % 256 ∷ v / 256 ∷ []
 
-abbrev pub long : ℕ → List ℕ
-long v = v % 256 ∷ v / 256 % 256 ∷ v / 65536 % 256 ∷ v / 16777216 ∷ []
+abbrev pub fourBytes : ℕ → List ℕ
+fourBytes v = v % 256 ∷ v / 256 % 256 ∷ v / 65536 % 256 ∷ v / 16777216 ∷ []
 
 -- "A, flags, B, C, D, E, H, L, SP, PC (low first), INTE"
 abbrev pub registerBytes : Registers → List ℕ
 registerBytes r =
-    r .a ∷ r .f ∷ r .b ∷ r .c ∷ r .d ∷ r .e ∷ r .h ∷ r .l ∷ (word (r .sp) ++ word (r .pc) ++ bitOf (r .inte) ∷ [])
+    r .a ∷ r .f ∷ r .b ∷ r .c ∷ r .d ∷ r .e ∷ r .h ∷ r .l ∷ (twoBytes (r .sp) ++ twoBytes (r .pc) ++ bitOf (r .inte) ∷ [])
 
 -- "READY, HOLD, INT, three zeros"
 abbrev pub lineBytes : Lines → List ℕ
@@ -50,7 +50,7 @@ lineBytes l = l .ready ∷ l .hold ∷ l .int ∷ 0 ∷ 0 ∷ 0 ∷ []
 -- the 24 bytes of the machine m: its registers, "mode", "clock (4, low first)", its lines
 unfoldable pub headerOf : Machine → List ℕ
 headerOf m =
-    registerBytes (m .regs) ++ modeOf (m .kept) (m .next) ∷ (long (m .clock) ++ lineBytes (m .lines))
+    registerBytes (m .regs) ++ modeOf (m .kept) (m .next) ∷ (fourBytes (m .clock) ++ lineBytes (m .lines))
 
 -- "Then 256 output ports, then memory"
 unfoldable pub savedOf : Machine → List ℕ → List ℕ → List ℕ

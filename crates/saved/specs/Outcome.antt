@@ -16,9 +16,9 @@ use Rattle.saved.specs.Fields.{machineIn, portsIn, memoryIn}
 use Rattle.saved.specs.Check.{saveVerdict, loadVerdict}
 
 -- what is left of a buffer: filled anew, or as it was after a refusal
-abbrev pub leftBy : Verdict → List ℕ → List ℕ → List ℕ
-leftBy verdict.Good after before = after
-leftBy (verdict.Refused reason) after before = before
+abbrev pub filledBy : Verdict → List ℕ → List ℕ → List ℕ
+filledBy verdict.Good after before = after
+filledBy (verdict.Refused reason) after before = before
 
 abbrev pub savingBy : Verdict → Saving
 savingBy verdict.Good = saving.Saved
@@ -32,10 +32,10 @@ loadingBy (verdict.Refused reason) after before = loading.Refused reason before
 -- saving the machine m, memory x and output ports o into the output z: the answer r, and z' afterwards
 pub record Saves (m : Machine) (x o z : List ℕ) (r : Saving) (z' : List ℕ) : Type 0 where
   pub answer : r ≡ savingBy (saveVerdict m (length x) (length o) (length z))
-  pub out : z' ≡ leftBy (saveVerdict m (length x) (length o) (length z)) (savedOf m o x) z
+  pub out : z' ≡ filledBy (saveVerdict m (length x) (length o) (length z)) (savedOf m o x) z
 
 -- loading the saved form s into memory x and output ports o, with the machine m handed in: the answer r, and x' and o'
 pub record Loads (m : Machine) (s x o : List ℕ) (r : Loading) (x' o' : List ℕ) : Type 0 where
   pub answer : r ≡ loadingBy (loadVerdict s (length x) (length o)) (machineIn s) m
-  pub memory : x' ≡ leftBy (loadVerdict s (length x) (length o)) (memoryIn s) x
-  pub outputs : o' ≡ leftBy (loadVerdict s (length x) (length o)) (portsIn s) o
+  pub memory : x' ≡ filledBy (loadVerdict s (length x) (length o)) (memoryIn s) x
+  pub outputs : o' ≡ filledBy (loadVerdict s (length x) (length o)) (portsIn s) o

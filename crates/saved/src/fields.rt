@@ -10,7 +10,7 @@ use machine::record::Lines;
 use machine::record::Machine;
 use machine::record::Position;
 use machine::well::fixed;
-use machine::well::listed;
+use machine::well::levels_listed;
 use opcodes::cycle::Acknowledge;
 
 // A byte as a number of two bytes.
@@ -79,7 +79,7 @@ pub(crate) fn in_range(s: &[u8]) -> bool
     fixed(s[1])
         & (s[12] <= 1)
         & (s[13] <= 2)
-        & listed(lines_in(s))
+        & levels_listed(lines_in(s))
         & (s[21] == 0)
         & (s[22] == 0)
         & (s[23] == 0)

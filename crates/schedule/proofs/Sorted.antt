@@ -12,7 +12,7 @@ use lib.Dec.{eqb, leb}
 use lib.ListN.{length}
 use Rattle.laws.specs.Choice.{pick}
 use Rattle.laws.proofs.Order.{lt-or-le}
-use Rattle.schedule.specs.Events.{numberOf, listedAt, followsOf, all, orderedOf, checkedOf}
+use Rattle.schedule.specs.Events.{stateNumberOf, listedAt, followsOf, all, orderedOf, checkedOf}
 use Rattle.schedule.specs.declared.order.Checked.{Checked}
 use Rattle.schedule.specs.declared.order.Checked.the-variants.{Good, Length, Value, Order}
 
@@ -57,30 +57,30 @@ module _ (s : List ℕ) where
   checked-good e = good _ _ _ e
 
   -- an event that may follow has no lower number
-  follows-le : (i : ℕ) → followsOf s i ≡ true → numberOf s i ≤ numberOf s (i + 1)
+  follows-le : (i : ℕ) → followsOf s i ≡ true → stateNumberOf s i ≤ stateNumberOf s (i + 1)
   unfolding followsOf
   follows-le i e =
       ⊎-elim
-      (λ (h : numberOf s (i + 1) < numberOf s i).
+      (λ (h : stateNumberOf s (i + 1) < stateNumberOf s i).
       absurd
       (false≢true
-      (simp (le-ltb _ _ (le-of-lt h), ne-eqb (numberOf s i) (numberOf s (i + 1)) (λ q. omega arith)) at e)))
-      (λ (h : numberOf s i ≤ numberOf s (i + 1)). h)
-      (lt-or-le (numberOf s (i + 1)) (numberOf s i))
+      (simp (le-ltb _ _ (le-of-lt h), ne-eqb (stateNumberOf s i) (stateNumberOf s (i + 1)) (λ q. omega arith)) at e)))
+      (λ (h : stateNumberOf s i ≤ stateNumberOf s (i + 1)). h)
+      (lt-or-le (stateNumberOf s (i + 1)) (stateNumberOf s i))
 
-  climbs : (n i d : ℕ) → orderedOf s n ≡ true → i + d < n → numberOf s i ≤ numberOf s (i + d)
+  climbs : (n i d : ℕ) → orderedOf s n ≡ true → i + d < n → stateNumberOf s i ≤ stateNumberOf s (i + d)
   unfolding orderedOf
   climbs n i zero o h = rw add-zero (le-refl _)
   climbs n i (suc d) o h =
-      let a : numberOf s i ≤ numberOf s (i + d) = climbs n i d o (omega arith) in
-      let b : numberOf s (i + d) ≤ numberOf s (i + d + 1) =
+      let a : stateNumberOf s i ≤ stateNumberOf s (i + d) = climbs n i d o (omega arith) in
+      let b : stateNumberOf s (i + d) ≤ stateNumberOf s (i + d + 1) =
       follows-le (i + d) (all-at (followsOf s) (n - 1) 0 (i + d) o (omega arith) (omega arith))
       in
       let q : i + d + 1 ≡ i + suc d = omega arith in
       le-trans a (rw q at b)
 
   -- the numbers of events in order never fall
-  pub ordered-sorted : (n : ℕ) → orderedOf s n ≡ true → (i j : ℕ) → i ≤ j → j < n → numberOf s i ≤ numberOf s j
+  pub ordered-sorted : (n : ℕ) → orderedOf s n ≡ true → (i j : ℕ) → i ≤ j → j < n → stateNumberOf s i ≤ stateNumberOf s j
   ordered-sorted n o i j h l =
       let q : i + (j - i) ≡ j = omega arith in
       rw q at (climbs n i (j - i) o (omega arith))

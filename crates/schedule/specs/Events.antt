@@ -10,8 +10,8 @@ use Rattle.schedule.specs.declared.order.Checked.{Checked}
 use Rattle.schedule.specs.declared.order.Checked.the-variants.{Good, Length, Value, Order}
 
 -- "An event is 6 bytes: state number (4 bytes, low first), line, value"
-unfoldable pub numberOf : List ℕ → ℕ → ℕ
-numberOf s i =
+unfoldable pub stateNumberOf : List ℕ → ℕ → ℕ
+stateNumberOf s i =
     getD s (6 * i) 0 + 256 * getD s (6 * i + 1) 0 + 65536 * getD s (6 * i + 2) 0 + 16777216 * getD s (6 * i + 3) 0
 
 abbrev pub lineOf : List ℕ → ℕ → ℕ
@@ -30,8 +30,8 @@ listedAt s i = listedOf (lineOf s i) (valueOf s i)
 -- event i + 1 may follow: "State numbers never fall; at equal state numbers the line codes rise strictly"
 unfoldable pub followsOf : List ℕ → ℕ → Bool
 followsOf s i =
-    ltb (numberOf s i) (numberOf s (i + 1))
-    || (eqb (numberOf s i) (numberOf s (i + 1)) && ltb (lineOf s i) (lineOf s (i + 1)))
+    ltb (stateNumberOf s i) (stateNumberOf s (i + 1))
+    || (eqb (stateNumberOf s i) (stateNumberOf s (i + 1)) && ltb (lineOf s i) (lineOf s (i + 1)))
 
 -- the test holds of the n numbers from i on
 unfoldable pub all : (ℕ → Bool) → ℕ → ℕ → Bool

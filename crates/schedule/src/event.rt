@@ -2,7 +2,7 @@
 ghost use mathlib.Core.Path.{_≡_};
 ghost use Prim.Native.Nat.{_+_, _*_, _≤_, _<_};
 ghost use lib.ListN.{length};
-ghost use Rattle.schedule.specs.Events.{numberOf, listedOf};
+ghost use Rattle.schedule.specs.Events.{stateNumberOf, listedOf};
 
 // A byte as a number of four bytes.
 fn wide(x: u8) -> u32
@@ -12,9 +12,9 @@ fn wide(x: u8) -> u32
 }
 
 // The state number of event i, low byte first.
-pub fn number(s: &[u8], i: usize) -> u32
+pub fn state_number(s: &[u8], i: usize) -> u32
     requires { ⌜ 6 * i + 6 ≤ length (now s) ⌝ }
-    ensures { λ r. ⌜ r ≡ numberOf (now (s .entry)) i ⌝ }
+    ensures { λ r. ⌜ r ≡ stateNumberOf (now (s .entry)) i ⌝ }
 {
     let a = 6 * i;
     wide(s[a]) + 256 * wide(s[a + 1]) + 65536 * wide(s[a + 2]) + 16777216 * wide(s[a + 3])

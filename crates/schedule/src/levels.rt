@@ -3,7 +3,7 @@ ghost use mathlib.Core.Path.{_≡_};
 ghost use Prim.Native.Nat.{_+_, _*_, _≤_};
 ghost use lib.ListN.{length};
 ghost use Rattle.schedule.specs.Levels.{actOf, onceOf, Asks, Gives};
-use crate::event::number;
+use crate::event::state_number;
 use machine::record::Lines;
 
 // The levels, and the number of events that lie behind.
@@ -31,7 +31,7 @@ fn once(s: &[u8], i: usize, t: u32, l: Lines) -> Lines
     ensures { λ r. ⌜ r ≡ onceOf (now (s .entry)) i t l ⌝ }
 {
     let a = 6 * i;
-    if number(s, i) == t {
+    if state_number(s, i) == t {
         act(s[a + 4], s[a + 5], l)
     } else {
         l
@@ -46,7 +46,7 @@ pub fn levels_at(s: &[u8], n: usize, from: usize, t: u32, l: Lines) -> Due
     let mut i = from;
     let mut cur = l;
     while i < n {
-        if t < number(s, i) {
+        if t < state_number(s, i) {
             return Due { lines: cur, at: i };
         }
         cur = once(s, i, t, cur);

@@ -4,7 +4,7 @@ ghost use Prim.Native.Nat.{_+_, _*_, _≤_};
 ghost use lib.ListN.{length};
 ghost use Rattle.schedule.specs.Events.{listedAt, followsOf, all, orderedOf, checkedOf};
 use crate::event::listed;
-use crate::event::number;
+use crate::event::state_number;
 
 // What the tests say: good, or which of them fails first.
 pub enum Checked {
@@ -41,8 +41,8 @@ fn follows(s: &[u8], i: usize) -> bool
     let j = i + 1;
     let a = 6 * i;
     let b = 6 * j;
-    let x = number(s, i);
-    let y = number(s, j);
+    let x = state_number(s, i);
+    let y = state_number(s, j);
     (x < y) | ((x == y) & (s[a + 4] < s[b + 4]))
 }
 

@@ -11,8 +11,8 @@ fez-cold-spec =
     (tie.spec (search needs) (search needs) (search needs)
     (λ c.
     let put = c .before .before .before in
-    record { answer = simp (eq-eqb _ _ (c .if1 .taken)); machine = simp (put .put .ensures, put .before .cold .ensures) })
+    record { answer = simp (eq-eqb _ _ (c .if1 .taken)); machine = simp (put .record-with .ensures, put .before .cold .ensures) })
     (search needs)
     (λ c.
     let put = c .before .before .before in
-    record { answer = simp (ne-eqb _ _ (c .if1 .left)); machine = simp (put .put .ensures, put .before .cold .ensures) }))
+    record { answer = simp (ne-eqb _ _ (c .if1 .left)); machine = simp (put .record-with .ensures, put .before .cold .ensures) }))

@@ -15,7 +15,7 @@ fez-load-spec =
     let load = told .before .before .before .before .before .before in
     load-loaded _ _ _ _ _ _ _ (load .before .before .before .before .if1 .left) _ _ _ (load .load .ensures)
     (told .loading .given .1)
-    (c .before .before .put .ensures))
+    (c .before .before .record-with .ensures))
     (search needs) (search needs)
     (λ c.
     let load = c .before .before .before .before .before .before .before in

@@ -23,4 +23,4 @@ fez-run-spec =
     let ran = put .before .before .before .before .before .before .before .before in
     run-call _ _ _ _ _ _ _ _ _ _ _ _ _ _ (ran .before .before .before .before .handed .ensures) (ran .run .ensures)
     (put .put-answer .ensures)
-    (c .packed .ensures)))
+    (c .run-number .ensures)))

@@ -14,6 +14,6 @@ fez-step-spec =
     let test = stepped .before .before in
     step-done _ _ _ _ (test .before .before .handed .ensures) (test .before .step-number .ensures) _ _ (test .if1 .taken)
     (stepped .step .ensures)
-    (c .before .before .put .ensures))
+    (c .before .before .record-with .ensures))
     (search needs)
     (λ c. step-refused _ _ _ _ (c .before .before .handed .ensures) (c .before .step-number .ensures) (c .if1 .left)))

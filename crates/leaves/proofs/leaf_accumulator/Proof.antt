@@ -10,4 +10,4 @@ unfolding leafAccumulatorOf
 leaf-accumulator-spec =
     tie.close
     (tie.spec (search needs) (search needs) (search needs)
-    (λ c. simp (← (c .packed .ensures), ← (c .before .accumulator .ensures), ← (c .before .before .flags-of .ensures))))
+    (λ c. simp (← (c .flagged-number .ensures), ← (c .before .accumulator .ensures), ← (c .before .before .flags-of .ensures))))

@@ -10,4 +10,4 @@ unfolding leafDcrOf
 leaf-dcr-spec =
     tie.close
     (tie.spec (search needs) (search needs) (search needs)
-    (λ c. simp (← (c .packed .ensures), ← (c .before .dcr .ensures), ← (c .before .before .flags-of .ensures))))
+    (λ c. simp (← (c .flagged-number .ensures), ← (c .before .dcr .ensures), ← (c .before .before .flags-of .ensures))))

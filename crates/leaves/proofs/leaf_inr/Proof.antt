@@ -10,4 +10,4 @@ unfolding leafInrOf
 leaf-inr-spec =
     tie.close
     (tie.spec (search needs) (search needs) (search needs)
-    (λ c. simp (← (c .packed .ensures), ← (c .before .inr .ensures), ← (c .before .before .flags-of .ensures))))
+    (λ c. simp (← (c .flagged-number .ensures), ← (c .before .inr .ensures), ← (c .before .before .flags-of .ensures))))

@@ -7,16 +7,16 @@ use Rattle.listing.proofs.Length.{listed}
 use Rattle.listing.proofs.listing.Statement.{statement}
 use Rattle.listing.proofs.listing.Tie as tie
 
-rows-requires : tie.Need-rows-requires
-rows-requires c κs = simp (c .before .before-halt .ensures) (rows-within _ _)
+state-lines-requires : tie.Need-state-lines-requires
+state-lines-requires c κs = simp (c .before .before-halt .ensures) (rows-within _ _)
 
 returns : tie.Need-returns
 returns c =
     let last = c .before .before in
-    let rows = last .before .before .before .before in
-    let count = rows .before .before in
+    let lines = last .before .before .before .before in
+    let count = lines .before .before in
     listed _ _ _ _ _ _ _ _ _ (omega arith) (λ j. omega (arith, count .before .shared-slice-known .given j))
-    (count .before-halt .ensures) (rows .rows .ensures) (last .last .ensures)
+    (count .before-halt .ensures) (lines .state-lines .ensures) (last .last-line .ensures)
 
 pub listing-spec : {M : Type 1} → statement M
-listing-spec = tie.close (tie.spec (search needs) rows-requires (search needs) (search needs) returns)
+listing-spec = tie.close (tie.spec (search needs) state-lines-requires (search needs) (search needs) returns)

@@ -13,7 +13,7 @@ handed-spec =
     (tie.spec (search needs) (search needs) (search needs) (search needs)
     (λ c.
     let formed = c .before .before in
-    simp (← (c .read .ensures), eq-eqb _ _ (formed .before .if1 .taken), ← (formed .formed .ensures), c .before .if2 .taken))
+    simp (← (c .recorded .ensures), eq-eqb _ _ (formed .before .if1 .taken), ← (formed .formed .ensures), c .before .if2 .taken))
     (λ c.
     let formed = c .before .before in
     simp (← (c .broken .ensures), eq-eqb _ _ (formed .before .if1 .taken), ← (formed .formed .ensures), c .before .if2 .left))

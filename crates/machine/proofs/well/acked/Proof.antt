@@ -14,6 +14,6 @@ acked-spec =
     simp (
       ← (c .idle .ensures),
       ← (c .before .before .before .before .restart .ensures),
-      ← (c .before .before .before .before .before .done .ensures),
+      ← (c .before .before .before .before .before .cycles-done .ensures),
       ← (c .before .before .before .before .before .before .is-none .ensures),
     )))

@@ -13,8 +13,8 @@ bytes-spec =
     (λ c κs. c .before .before .before .pre)
     (λ c.
     simp (
-      ← (c .read4 .ensures),
-      ← (c .before .read3 .ensures),
-      ← (c .before .before .read2 .ensures),
-      ← (c .before .before .before .read .ensures),
+      ← (c .zero-or-read4 .ensures),
+      ← (c .before .zero-or-read3 .ensures),
+      ← (c .before .before .zero-or-read2 .ensures),
+      ← (c .before .before .before .zero-or-read .ensures),
     )))

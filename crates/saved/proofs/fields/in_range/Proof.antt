@@ -13,7 +13,7 @@ in-range-spec =
     (search needs) (search needs)
     (λ c.
     simp (
-      ← (c .before .before .before .listed .ensures),
+      ← (c .before .before .before .levels-listed .ensures),
       ← (c .before .before .before .before .lines-in .ensures),
       ← (c .before .before .before .before .before .before .before .fixed .ensures),
     )))

@@ -5,7 +5,7 @@ use Prim.Native.Nat.{ℕ, _+_, _-_, _≤_, _<_}
 use mathlib.Core.Path.{_≡_, sym, ap, _∙_}
 use native.Mathlib.Omega.{arith}
 use borrow.Author.Count.{below-more}
-use Rattle.schedule.specs.Events.{numberOf}
+use Rattle.schedule.specs.Events.{stateNumberOf}
 use Rattle.schedule.specs.Levels.{levelsAt, onceOf}
 use Rattle.schedule.proofs.Cursor.{levels-before, levels-rest, levels-next}
 use borrow.Author.Needs.{needs}
@@ -14,7 +14,7 @@ use Rattle.schedule.proofs.levels.levels_at.Statement.{statement}
 use Rattle.schedule.proofs.levels.levels_at.Tie as tie
 
 abbrev Inv-loop : tie.InvT-loop
-Inv-loop s n from t i₀ cur₀ i cur = (i ≤ n) × (cur ≡ levelsAt s i t cur₀) × ((j : ℕ) → j < i → numberOf s j ≤ t)
+Inv-loop s n from t i₀ cur₀ i cur = (i ≤ n) × (cur ≡ levelsAt s i t cur₀) × ((j : ℕ) → j < i → stateNumberOf s j ≤ t)
 
 abbrev μ-loop : tie.MeasureT-loop
 μ-loop s n from t i₀ cur₀ i cur = n - i
@@ -38,7 +38,7 @@ returns c =
             arith,
             c .before .before .before .before .before .pre .sorted _ j p q,
             c .if1 .taken,
-            c .before .number .ensures,
+            c .before .state-number .ensures,
           )));
       within = c .before .before .before .loop .inv .0;
       done = c .before .before .before .loop .inv .2;
@@ -54,7 +54,7 @@ loop-again c = (
       (c .before .before .before .before .loop .inv .1)
       ∙ sym (levels-next _ _ _ _),
   below-more _ _ (c .before .before .before .before .loop .inv .2)
-      (omega (arith, c .before .before .number .ensures, c .before .if1 .left)),
+      (omega (arith, c .before .before .state-number .ensures, c .before .if1 .left)),
 )
 
 returns-2 : tie.Need-returns-2 Inv-loop μ-loop

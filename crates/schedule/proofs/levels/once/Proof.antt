@@ -15,6 +15,6 @@ once-spec =
     simp (
       ← (c .act .ensures),
       eq-eqb _ _ (c .before .before .before .if1 .taken),
-      ← (c .before .before .before .before .number .ensures),
+      ← (c .before .before .before .before .state-number .ensures),
     ))
-    (λ c. simp (ne-eqb _ _ (c .if1 .left), ← (c .before .number .ensures))))
+    (λ c. simp (ne-eqb _ _ (c .if1 .left), ← (c .before .state-number .ensures))))

@@ -13,6 +13,6 @@ follows-spec =
     (search needs) (search needs)
     (λ c.
     simp (
-      ← (c .before .before .number2 .ensures),
-      ← (c .before .before .before .number .ensures),
+      ← (c .before .before .state-number2 .ensures),
+      ← (c .before .before .before .state-number .ensures),
     )))

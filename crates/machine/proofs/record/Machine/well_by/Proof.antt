@@ -16,11 +16,11 @@ well-by-spec =
     (λ c.
     simp (
       ← (c .bytes .ensures),
-      ← (c .before .done .ensures),
+      ← (c .before .cycles-done .ensures),
       ← (c .before .before .acked .ensures),
       ← (c .before .before .before .there .ensures),
       ← (c .before .before .before .before .cycles .ensures .0),
       ← (c .before .before .before .before .before .is-defined .ensures),
-      ← (c .before .before .before .before .before .before .listed .ensures),
+      ← (c .before .before .before .before .before .before .levels-listed .ensures),
       ← (c .before .before .before .before .before .before .before .fixed .ensures),
     )))

@@ -1,13 +1,13 @@
--- `schedule::event::number` meets its contract.
+-- `schedule::event::state_number` meets its contract.
 -- Assumes nothing.
-use Rattle.schedule.specs.Events.{numberOf}
+use Rattle.schedule.specs.Events.{stateNumberOf}
 use borrow.Author.Needs.{needs}
-use Rattle.schedule.proofs.event.number.Statement.{statement}
-use Rattle.schedule.proofs.event.number.Tie as tie
+use Rattle.schedule.proofs.event.state_number.Statement.{statement}
+use Rattle.schedule.proofs.event.state_number.Tie as tie
 
-pub number-spec : {M : Type 1} → statement M
-unfolding numberOf
-number-spec =
+pub state-number-spec : {M : Type 1} → statement M
+unfolding stateNumberOf
+state-number-spec =
     tie.close
     (tie.spec (search needs) (search needs) (search needs) (search needs) (search needs) (search needs) (search needs)
     (search needs) (search needs) (search needs) (search needs) (search needs) (search needs) (search needs)

@@ -1,13 +1,13 @@
--- `capi::handed::read` meets its contract.
+-- `capi::handed::recorded` meets its contract.
 -- Assumes nothing.
-use Rattle.capi.specs.Handed.{readOf}
+use Rattle.capi.specs.Handed.{recordedOf}
 use borrow.Author.Needs.{needs}
-use Rattle.capi.proofs.handed.read.Statement.{statement}
-use Rattle.capi.proofs.handed.read.Tie as tie
+use Rattle.capi.proofs.handed.recorded.Statement.{statement}
+use Rattle.capi.proofs.handed.recorded.Tie as tie
 
-pub read-spec : {M : Type 1} → statement M
-unfolding readOf
-read-spec =
+pub recorded-spec : {M : Type 1} → statement M
+unfolding recordedOf
+recorded-spec =
     tie.close
     (tie.spec (search needs) (search needs) (search needs) (search needs) (search needs) (search needs) (search needs)
     (search needs)

@@ -1,13 +1,13 @@
--- `listing::lines::last` meets its contract.
+-- `listing::lines::last_line` meets its contract.
 -- Assumes nothing.
 use borrow.Author.Needs.{needs}
-use Rattle.listing.specs.Lines.{lastOf}
+use Rattle.listing.specs.Lines.{lastLineOf}
 use Rattle.listing.proofs.Written.{both, one}
-use Rattle.listing.proofs.lines.last.Statement.{statement}
-use Rattle.listing.proofs.lines.last.Tie as tie
+use Rattle.listing.proofs.lines.last_line.Statement.{statement}
+use Rattle.listing.proofs.lines.last_line.Tie as tie
 
 returns : tie.Need-returns
-unfolding lastOf
+unfolding lastLineOf
 returns c =
     let feed = c .before .before in
     let count = feed .before .before .before .before in
@@ -23,8 +23,8 @@ returns c =
     let counted = both _ _ _ (both _ _ _ whole (third .word3 .ensures)) (count .decimal .ensures) in
     both _ _ _ counted (one _ _ (feed .put .ensures))
 
-pub last-spec : {M : Type 1} → statement M
-last-spec =
+pub last-line-spec : {M : Type 1} → statement M
+last-line-spec =
     tie.close
     (tie.spec (search needs) (search needs) (search needs) (search needs) (search needs) (search needs) (search needs)
     (search needs) (search needs) (search needs) (search needs) (search needs) (search needs) (search needs)

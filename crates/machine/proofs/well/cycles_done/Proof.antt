@@ -1,14 +1,14 @@
--- `machine::well::done` meets its contract.
+-- `machine::well::cycles_done` meets its contract.
 -- Assumes nothing.
-use Rattle.machine.specs.Well.{doneOf}
+use Rattle.machine.specs.Well.{cyclesDone}
 use borrow.Author.Tests.{le-leb, le-ltb, lt-leb, lt-ltb}
 use borrow.Author.Needs.{needs}
-use Rattle.machine.proofs.well.done.Statement.{statement}
-use Rattle.machine.proofs.well.done.Tie as tie
+use Rattle.machine.proofs.well.cycles_done.Statement.{statement}
+use Rattle.machine.proofs.well.cycles_done.Tie as tie
 
-pub done-spec : {M : Type 1} → statement M
-unfolding doneOf
-done-spec =
+pub cycles-done-spec : {M : Type 1} → statement M
+unfolding cyclesDone
+cycles-done-spec =
     tie.close
     (tie.spec (search needs) (search needs) (search needs) (search needs) (search needs) (search needs) (search needs)
     (search needs)

@@ -1,4 +1,4 @@
--- `listing::rows` meets its contract. The loop keeps the whole text (Turn, `rows-turn`); the measure is the lines that are left.
+-- `listing::state_lines` meets its contract. The loop keeps the whole text (Turn, `rows-turn`); the measure is the lines that are left.
 -- Assumes nothing.
 use Prim.Native.Nat.{_+_}
 use mathlib.Core.Path.{_≡_, refl, sym, _∙_}
@@ -6,16 +6,16 @@ use native.Mathlib.Omega.{arith}
 use borrow.Author.Needs.{needs}
 use lib.ListN.{length}
 use Rattle.listing.specs.Text.{textOf, writtenOf}
-use Rattle.listing.specs.Listing.{rowsOf}
+use Rattle.listing.specs.Listing.{stateLinesOf}
 use Rattle.listing.proofs.Turn.{rows-none, rows-turn}
-use Rattle.listing.proofs.rows.Statement.{statement}
-use Rattle.listing.proofs.rows.Tie as tie
+use Rattle.listing.proofs.state_lines.Statement.{statement}
+use Rattle.listing.proofs.state_lines.Tie as tie
 
 abbrev Inv-loop : tie.InvT-loop
 Inv-loop out₀ trace n at₀ i₀ left₀ out at i left =
     (i + left ≡ n)
     × (length out ≡ length out₀)
-    × (writtenOf (rowsOf trace i left) (textOf out at) ≡ writtenOf (rowsOf trace 0 n) (textOf out₀ 0))
+    × (writtenOf (stateLinesOf trace i left) (textOf out at) ≡ writtenOf (stateLinesOf trace 0 n) (textOf out₀ 0))
 
 abbrev μ-loop : tie.MeasureT-loop
 μ-loop out₀ trace n at₀ i₀ left₀ out at i left = left
@@ -29,14 +29,14 @@ loop-again c =
     let test = line .before .before .before in
     let loop = test .before in
     let trace = loop .before .before .before .args .trace .now in
-    let turn = rows-turn trace (loop .loop .i) _ _ _ (test .loop-test .taken) (line .line .ensures) in
-    (omega arith, line .line .kept .0 ∙ loop .loop .inv .1, turn ∙ loop .loop .inv .2)
+    let turn = rows-turn trace (loop .loop .i) _ _ _ (test .loop-test .taken) (line .state-line .ensures) in
+    (omega arith, line .state-line .kept .0 ∙ loop .loop .inv .1, turn ∙ loop .loop .inv .2)
 
 returns : tie.Need-returns Inv-loop μ-loop
 returns c = sym (rows-none _ _ _ _ (c .loop-test .left)) ∙ c .before .loop .inv .2
 
-pub rows-spec : {M : Type 1} → statement M
-rows-spec =
+pub state-lines-spec : {M : Type 1} → statement M
+state-lines-spec =
     tie.close
     (tie.spec Inv-loop μ-loop loop-holds (search needs) (search needs) (search needs) (search needs) (search needs)
     (search needs) (search needs) (search needs) loop-again (search needs) returns)

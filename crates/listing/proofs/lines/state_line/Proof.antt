@@ -1,11 +1,11 @@
--- `listing::lines::line` meets its contract.
+-- `listing::lines::state_line` meets its contract.
 -- Assumes nothing.
 use native.Mathlib.Omega.{arith}
 use borrow.Author.Needs.{needs}
-use Rattle.listing.specs.Lines.{lineOf}
+use Rattle.listing.specs.Lines.{stateLineOf}
 use Rattle.listing.proofs.Written.{both, more, one}
-use Rattle.listing.proofs.lines.line.Statement.{statement}
-use Rattle.listing.proofs.lines.line.Tie as tie
+use Rattle.listing.proofs.lines.state_line.Statement.{statement}
+use Rattle.listing.proofs.lines.state_line.Tie as tie
 
 same-length : tie.Need-same-length
 same-length c =
@@ -37,7 +37,7 @@ same-length c =
 
 -- the pieces one after the other, with the row's fields in them
 returns : tie.Need-returns
-unfolding lineOf
+unfolding stateLineOf
 returns c =
     let feed = c .before .before in
     let shown = feed .before .before .before .before in
@@ -64,8 +64,8 @@ returns c =
     )
     (both _ _ _ read (one _ _ (feed .put5 .ensures)))
 
-pub line-spec : {M : Type 1} → statement M
-line-spec =
+pub state-line-spec : {M : Type 1} → statement M
+state-line-spec =
     tie.close
     (tie.spec (search needs) (search needs) (search needs) (search needs) (search needs) (search needs) (search needs)
     (search needs) (search needs) (search needs) (search needs) (search needs) (search needs) (search needs) (search needs)

@@ -1,15 +1,15 @@
--- `capi::flat::put` meets its contract.
+-- `capi::flat::record_with` meets its contract.
 -- Assumes nothing.
 use borrow.Author.Tests.{ne-eqb}
-use Rattle.capi.specs.Flat.{putOf}
+use Rattle.capi.specs.Flat.{recordWith}
 use Rattle.capi.proofs.Put.{put-flat}
 use borrow.Author.Needs.{needs}
-use Rattle.capi.proofs.flat.put.Statement.{statement}
-use Rattle.capi.proofs.flat.put.Tie as tie
+use Rattle.capi.proofs.flat.record_with.Statement.{statement}
+use Rattle.capi.proofs.flat.record_with.Tie as tie
 
-pub put-spec : {M : Type 1} → statement M
-unfolding putOf
-put-spec =
+pub record-with-spec : {M : Type 1} → statement M
+unfolding recordWith
+record-with-spec =
     tie.close
     (tie.spec (search needs) (search needs) (search needs) (search needs)
     (λ c.
