@@ -13,7 +13,7 @@ use Rattle.opcodes.specs.Cycles.{definedOf}
 use Rattle.opcodes.specs.Kinds.{statesOf, waitsOf}
 use Rattle.opcodes.specs.Totals.{totalOf, shape}
 use Rattle.demands.specs.Outside.{Outside, Moment, down, up}
-use Rattle.demands.specs.Rows.{Through, Row, Waits, Forced, one}
+use Rattle.demands.specs.Rows.{Through, Unbroken, Waits, Forced, one}
 use Rattle.demands.proofs.Work.{Work, useCycle, opcodeOf}
 use Rattle.demands.specs.Board.{Board}
 use Rattle.demands.specs.Course.{courseOf}
@@ -25,7 +25,7 @@ use Rattle.demands.proofs.Fetches.{fetch-waits}
 use Rattle.demands.proofs.Going.{Going, begin, reading, read, first, early, late}
 
 -- a stretch is not longer than its row
-pub row-longer : (f : ℕ → Bool) (t j n : ℕ) → Through f t (suc j) → Row f t n → j < n
+pub row-longer : (f : ℕ → Bool) (t j n : ℕ) → Through f t (suc j) → Unbroken f t n → j < n
 row-longer f t j n h r =
     ⊎-elim (λ (l : j < n). l) (λ (l : n ≤ j). absurd (true≢false (sym (h n (omega arith)) ∙ r .1))) (lt-or-le j n)
 
@@ -53,7 +53,7 @@ module _ (E : Outside) (x : ℕ) (l : List ℕ) (t : Moment) where
       let z : W ≡ K = waits-one (waitsOf code) E (t .clock + 1) W K (waits-as (waitsOf code) W e a) h in
       let p : t .clock + (statesOf x + W - 1) ≡ t .clock + (s + K - 1) = ap₂ (λ y v. t .clock + (y + v - 1)) n z in
       let y : j < H =
-      row-longer (up E) (t .clock + (s + K - 1)) j H th (subst (λ (v : ℕ). Row (up E) v H) p r) in
+      row-longer (up E) (t .clock + (s + K - 1)) j H th (subst (λ (v : ℕ). Unbroken (up E) v H) p r) in
       omega arith
 
 module _ (E : Outside) (d₀ : Work) (t₀ : Moment) (d : definedOf (opcodeOf E d₀) ≡ true) where

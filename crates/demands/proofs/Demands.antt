@@ -15,7 +15,7 @@ use Rattle.machine.specs.Ending.{takesOf, acknowledgeOf, clearOf, isHlt, endedO
 use Rattle.run.specs.Run.{runOf}
 use Rattle.demands.specs.Outside.{Outside, outsideOf, didTimes}
 use Rattle.demands.specs.Board.{Board, boardOf, momentOf}
-use Rattle.demands.specs.Between.{begins, Acknowledges}
+use Rattle.demands.specs.Begins.{begins, Acknowledges}
 use Rattle.demands.specs.Legs.{Tally, tally, plus, statesIn, afterwards, opcodeAt, manualAt, statesAt, instruction, stay}
 use Rattle.demands.specs.Legs.{go}
 use Rattle.demands.specs.Calls.{worldOn}

@@ -16,7 +16,7 @@ use Rattle.machine.specs.Well.{cyclesDone, zeroOrRead, wellOf}
 use Rattle.machine.proofs.Parts.{ReadyAt, parts-of}
 use Rattle.machine.proofs.Bytes.{bytes-each}
 use Rattle.demands.specs.Board.{Board}
-use Rattle.demands.specs.Between.{begins, Beginning}
+use Rattle.demands.specs.Begins.{begins, Beginning}
 use Rattle.demands.proofs.Openings.{Start, fetching, halting}
 
 or-first : (a : Bool) → T (a || false) → T a

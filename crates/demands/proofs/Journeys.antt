@@ -10,10 +10,10 @@ use Rattle.opcodes.specs.Cycles.{definedOf}
 use Rattle.opcodes.specs.declared.cycle.Acknowledge.the-variants.{None}
 use Rattle.effect.specs.Kept.{keptFor}
 use Rattle.machine.specs.declared.record.Position.the-variants.{Fetch, Hold, Halt}
-use Rattle.demands.specs.Between.{Acknowledges}
+use Rattle.demands.specs.Begins.{Acknowledges}
 use Rattle.demands.specs.Outside.{Outside, didTimes, up}
 use Rattle.demands.proofs.Work.{opcodeOf, here, workOf}
-use Rattle.demands.specs.Rows.{Through, Row}
+use Rattle.demands.specs.Rows.{Through, Unbroken}
 use Rattle.demands.specs.Board.{Board, momentOf}
 use Rattle.demands.specs.Own.{own}
 use Rattle.demands.specs.Bound.{Neither, underWay}
@@ -112,7 +112,7 @@ module _ (E : Outside) (b₀ : Board) where
   stop-over (halting e) e' f = fetch-halt b₀ e' e
 
   -- the end of a halt state and its holds
-  halt-over : (b : Board) (h i o : ℕ) → b₀ .machine .next ≡ Halt → Row (up E) (b₀ .machine .clock) h → i ≡ suc h → o ≡ 1
+  halt-over : (b : Board) (h i o : ℕ) → b₀ .machine .next ≡ Halt → Unbroken (up E) (b₀ .machine .clock) h → i ≡ suc h → o ≡ 1
       → b ≡ afterwards 0x76 (kept-all (workOf b₀)) (didTimes E i (momentOf b₀)) → Ran b i o
   halt-over b h i o e r n q p =
       let n' : i ≡ 1 + h = omega arith in

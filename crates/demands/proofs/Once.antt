@@ -11,7 +11,7 @@ use Rattle.opcodes.specs.declared.cycle.Acknowledge.the-variants.{None}
 use Rattle.effect.specs.declared.kept.Kept.{Kept}
 use Rattle.effect.specs.Kept.{keptFor}
 use Rattle.demands.specs.Outside.{Outside, didTimes, up}
-use Rattle.demands.specs.Rows.{Row, Forced, none, one}
+use Rattle.demands.specs.Rows.{Unbroken, Forced, none, one}
 use Rattle.demands.specs.Board.{Board, momentOf}
 use Rattle.demands.specs.States.{restartStates}
 use Rattle.demands.specs.Legs.{Tally, tally, plus, statesIn, afterwards, opcodeAt, manualAt, statesAt, restartByte}
@@ -30,7 +30,7 @@ module _ (E : Outside) where
       let e : W ≡ W' = waits-one (waitsOf x) E (t + 1) W W' a a' in
       let f : H ≡ H' =
       row-one (up E) (t + (statesOf x + W - 1)) H H' b
-      (subst (λ (i : ℕ). Row (up E) (t + (statesOf x + i - 1)) H') (sym e) b') in
+      (subst (λ (i : ℕ). Unbroken (up E) (t + (statesOf x + i - 1)) H') (sym e) b') in
       let q : t + (statesOf x + W' + H') ≡ t + (statesOf x + W + H) = omega arith in
       let (p, r) =
       forced-one cs (t + (statesOf x + W + H)) w h w' h' c (subst (λ (i : ℕ). Forced E cs i w' h') q c') in

@@ -29,7 +29,7 @@ use Rattle.machine.specs.Look.{firstPcOf}
 use Rattle.machine.specs.Request.{askedOf, restartOf}
 use Rattle.machine.specs.Step.{risenOf, haltedOf}
 use Rattle.run.specs.State.{byteOn}
-use Rattle.demands.specs.Between.{Acknowledges}
+use Rattle.demands.specs.Begins.{Acknowledges}
 use Rattle.demands.specs.Outside.{Outside, Moment, did, up}
 use Rattle.demands.proofs.Work.{Work, closing, opcodeOf, here, workOf}
 use Rattle.demands.specs.Manual.{Result}

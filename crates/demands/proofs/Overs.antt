@@ -11,7 +11,7 @@ use Rattle.opcodes.specs.Cycles.{codeOf, definedOf}
 use Rattle.opcodes.specs.Kinds.{statesOf, waitsOf}
 use Rattle.opcodes.specs.Totals.{totalOf, shape}
 use Rattle.demands.specs.Outside.{Outside, Moment, didTimes, up}
-use Rattle.demands.specs.Rows.{Row, Waits, Forced, one}
+use Rattle.demands.specs.Rows.{Unbroken, Waits, Forced, one}
 use Rattle.demands.proofs.Work.{Work, useCycle, uses}
 use Rattle.demands.specs.Board.{Board}
 use Rattle.demands.specs.Own.{own}
@@ -25,18 +25,18 @@ use Rattle.demands.proofs.Going.{use-flags, use-inte}
 
 -- one cycle more stands in front of those that are left
 pub more-forced : (E : Outside) (x : ℕ) (l : List ℕ) (t u v W H w h s : ℕ) → Waits (waitsOf x) E (t + 1) W → statesOf x ≡ s
-    → Row (up E) (t + (s + W - 1)) H → u ≡ t + (s + W + H) → Forced E l u w h → Forced E (x ∷ l) t (W + w) (H + h)
+    → Unbroken (up E) (t + (s + W - 1)) H → u ≡ t + (s + W + H) → Forced E l u w h → Forced E (x ∷ l) t (W + w) (H + h)
 more-forced E x l t u v W H w h s a e r q f =
-    one W H a (subst (λ (z : ℕ). Row (up E) (t + (z + W - 1)) H) (sym e) r)
+    one W H a (subst (λ (z : ℕ). Unbroken (up E) (t + (z + W - 1)) H) (sym e) r)
     (subst (λ (z : ℕ). Forced E l z w h) (q ∙ ap (λ (z : ℕ). t + (z + W + H)) (sym e)) f)
 
 -- and taken away again
 pub less-forced : (E : Outside) (x : ℕ) (l : List ℕ) (t u W H s w h : ℕ) → Waits (waitsOf x) E (t + 1) W → statesOf x ≡ s
-    → Row (up E) (t + (s + W - 1)) H → u ≡ t + (s + W + H) → Forced E (x ∷ l) t w h → Rest E l u W H w h
+    → Unbroken (up E) (t + (s + W - 1)) H → u ≡ t + (s + W + H) → Forced E (x ∷ l) t w h → Rest E l u W H w h
 less-forced E x l t u W H s _ _ a e r q (one {w = w} {h = h} W' H' a' r' f) =
     let p : W' ≡ W = waits-one (waitsOf x) E (t + 1) W' W a' a in
     let z : t + (statesOf x + W' - 1) ≡ t + (s + W - 1) = ap₂ (λ i j. t + (i + j - 1)) e p in
-    let k : H' ≡ H = row-one (up E) (t + (s + W - 1)) H' H (subst (λ (i : ℕ). Row (up E) i H') z r') r in
+    let k : H' ≡ H = row-one (up E) (t + (s + W - 1)) H' H (subst (λ (i : ℕ). Unbroken (up E) i H') z r') r in
     record {
       waits = w;
       holds = h;

@@ -12,7 +12,7 @@ use Rattle.opcodes.specs.Kinds.{waitsOf}
 use Rattle.machine.specs.declared.record.Position.{Position}
 use Rattle.machine.specs.declared.record.Position.the-variants.{Later, Wait, Hold}
 use Rattle.demands.specs.Outside.{Outside, Moment, did, didTimes, down, up}
-use Rattle.demands.specs.Rows.{Through, Row, Waits}
+use Rattle.demands.specs.Rows.{Through, Unbroken, Waits}
 use Rattle.demands.proofs.Work.{Work, risen, here}
 use Rattle.demands.specs.Board.{Board}
 use Rattle.demands.specs.Own.{own}
@@ -95,7 +95,7 @@ module _ (E : Outside) (u : Work) (c code s : ℕ) (t : Moment) where
     pub W : ℕ
     pub H : ℕ
     pub waits : Waits (waitsOf code) E (t .clock + 1) W
-    pub holds : Row (up E) (t .clock + (s + W - 1)) H
+    pub holds : Unbroken (up E) (t .clock + (s + W - 1)) H
     pub count : suc i ≡ s + W + H
     pub owned : own (b .machine .next) + o ≡ s
     pub board : step E b ≡ Done c u (didTimes E (suc i) t)

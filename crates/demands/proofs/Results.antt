@@ -14,7 +14,7 @@ use Rattle.opcodes.specs.declared.cycle.Acknowledge.the-variants.{None}
 use Rattle.effect.specs.declared.kept.Kept.{Kept}
 use Rattle.effect.specs.Kept.{keptFor}
 use Rattle.machine.specs.declared.record.Position.the-variants.{Fetch}
-use Rattle.demands.specs.Between.{Acknowledges}
+use Rattle.demands.specs.Begins.{Acknowledges}
 use Rattle.demands.specs.Outside.{Outside, didTimes}
 use Rattle.demands.proofs.Work.{uses, opcodeOf, closing, resultOf, workOf}
 use Rattle.demands.specs.Rows.{Forced}

@@ -10,7 +10,7 @@ use Rattle.demands.specs.Outside.{Outside, Moment}
 use Rattle.demands.proofs.Work.{Work, here, workOf}
 use Rattle.demands.specs.Board.{Board, momentOf}
 use Rattle.demands.specs.Own.{own}
-use Rattle.demands.specs.Between.{begins}
+use Rattle.demands.specs.Begins.{begins}
 use Rattle.demands.specs.Legs.{Tally, tally, plus, statesIn}
 use Rattle.demands.specs.Legs.{Leg, Trip, stay, go}
 use Rattle.demands.proofs.Steps.{step, run}

@@ -12,7 +12,7 @@ use Rattle.demands.proofs.Work.{workOf}
 use Rattle.demands.specs.States.{restartStates}
 use Rattle.demands.specs.Board.{Board, momentOf}
 use Rattle.demands.specs.Own.{own}
-use Rattle.demands.specs.Between.{begins}
+use Rattle.demands.specs.Begins.{begins}
 use Rattle.demands.specs.Legs.{Tally, opcodeAt, manualAt, statesAt, restartByte, restartAt}
 use Rattle.demands.specs.Legs.{Leg, instruction, acknowledge, halt}
 use Rattle.demands.proofs.Steps.{step, run}

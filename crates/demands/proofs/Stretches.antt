@@ -7,7 +7,7 @@ use native.Mathlib.Omega.{arith}
 use native.Mathlib.Nat.{eq-or-lt-of-le, le-of-suc-le-suc}
 use Rattle.laws.proofs.Order.{lt-or-le}
 use Rattle.demands.specs.Outside.{Outside, Moment, did, didTimes, down}
-use Rattle.demands.specs.Rows.{Through, Row, Waits}
+use Rattle.demands.specs.Rows.{Through, Unbroken, Waits}
 
 pub bool : (b : Bool) → (b ≡ true) ⊎ (b ≡ false)
 bool true = inl refl
@@ -34,14 +34,14 @@ module _ (f : ℕ → Bool) where
   through-none t i l = absurd (let no : ⊥ = omega arith in no)
 
   -- and the end of a row
-  pub row-end : (t n u : ℕ) → Through f t n → u ≡ t + n → f u ≡ false → Row f t n
+  pub row-end : (t n u : ℕ) → Through f t n → u ≡ t + n → f u ≡ false → Unbroken f t n
   row-end t n u h e p = (h, ap f (sym e) ∙ p)
 
   -- a row has one length
-  shorter : (t n m : ℕ) → Row f t n → Row f t m → n < m → ⊥
+  shorter : (t n m : ℕ) → Unbroken f t n → Unbroken f t m → n < m → ⊥
   shorter t n m a b l = false≢true (sym (a .1) ∙ b .0 n l)
 
-  pub row-one : (t n m : ℕ) → Row f t n → Row f t m → n ≡ m
+  pub row-one : (t n m : ℕ) → Unbroken f t n → Unbroken f t m → n ≡ m
   row-one t n m a b =
       ⊎-elim (λ (l : n < m). absurd (shorter t n m a b l))
       (λ l.

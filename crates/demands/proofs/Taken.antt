@@ -9,7 +9,7 @@ use Rattle.run.specs.Run.{stoppedOf}
 use Rattle.demands.specs.Outside.{Outside, intIn, outsideOf}
 use Rattle.demands.specs.Board.{Board, boardOf}
 use Rattle.demands.specs.Own.{own}
-use Rattle.demands.specs.Between.{begins, Acknowledges}
+use Rattle.demands.specs.Begins.{begins, Acknowledges}
 use Rattle.demands.specs.Calls.{worldOn}
 use Rattle.demands.specs.Bound.{sumBelow, Neither, underWay, worldAt, Rises, SoonTaken}
 use Rattle.demands.proofs.Stretches.{bool}

@@ -17,7 +17,7 @@ use Rattle.run.specs.Outcome.{verdictOf}
 use Rattle.demands.specs.Outside.{intIn}
 use Rattle.demands.specs.Board.{Board, boardOf}
 use Rattle.demands.specs.Own.{own}
-use Rattle.demands.specs.Between.{begins, Acknowledges}
+use Rattle.demands.specs.Begins.{begins, Acknowledges}
 use Rattle.demands.specs.Calls.{worldOn, Reached, amid}
 use Rattle.demands.specs.Bound.{sumBelow, Rises}
 use Rattle.demands.specs.Cards.{ports}

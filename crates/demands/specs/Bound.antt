@@ -14,7 +14,7 @@ use Rattle.run.specs.Run.{World, eventfulOf, runOf}
 use Rattle.demands.specs.Outside.{intIn}
 use Rattle.demands.specs.Board.{Board, boardOf}
 use Rattle.demands.specs.Own.{own}
-use Rattle.demands.specs.Between.{begins, Beginning, Acknowledges}
+use Rattle.demands.specs.Begins.{begins, Beginning, Acknowledges}
 use Rattle.demands.specs.Legs.{opcodeAt, restartByte}
 use Rattle.demands.specs.Calls.{worldOn, Reached}
 

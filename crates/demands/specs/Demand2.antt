@@ -15,7 +15,7 @@ use Rattle.run.specs.Run.{runOf}
 use Rattle.demands.specs.Manual.{Result, manual}
 use Rattle.demands.specs.Outside.{outsideOf}
 use Rattle.demands.specs.Board.{Board, boardOf}
-use Rattle.demands.specs.Between.{begins, Beginning, Acknowledges}
+use Rattle.demands.specs.Begins.{begins, Beginning, Acknowledges}
 use Rattle.demands.specs.Rows.{Forced}
 use Rattle.demands.specs.Legs.{Tally, statesIn, opcodeAt, statesAt, courseAt, Trip}
 use Rattle.demands.specs.Calls.{worldOn, Reached}

@@ -6,7 +6,7 @@ use Prim.Native.Nat.{ℕ}
 use mathlib.Core.List.{List}
 use Rattle.demands.specs.Outside.{outsideOf}
 use Rattle.demands.specs.Board.{Board}
-use Rattle.demands.specs.Between.{Beginning}
+use Rattle.demands.specs.Begins.{Beginning}
 use Rattle.demands.specs.Costs.{Costs}
 use Rattle.demands.specs.Calls.{Calls}
 

@@ -17,7 +17,7 @@ use Rattle.machine.specs.Ending.{endedOf}
 use Rattle.demands.specs.Outside.{Outside, Moment, didTimes, up}
 use Rattle.demands.specs.Manual.{Result, manual, restart}
 use Rattle.demands.specs.States.{manualStates, restartStates}
-use Rattle.demands.specs.Rows.{Row, Forced}
+use Rattle.demands.specs.Rows.{Unbroken, Forced}
 use Rattle.demands.specs.Board.{Board, momentOf}
 use Rattle.demands.specs.Course.{courseOf}
 
@@ -85,7 +85,7 @@ pub data Leg (E : Outside) (b : Board) : Tally → Board → Type 0 where
       → Forced E (courseAt b (restartByte n)) (b .machine .clock) w h
       → Leg E b (tally restartStates w h 0)
       (afterwards (restartByte n) (restartAt E b n) (didTimes E (restartStates + w + h) (momentOf b)))
-  halt : (h : ℕ) → b .machine .next ≡ Halt → Row (up E) (b .machine .clock) h
+  halt : (h : ℕ) → b .machine .next ≡ Halt → Unbroken (up E) (b .machine .clock) h
       → Leg E b (tally 0 0 h 1)
       (afterwards 0x76 (record { regs = b .machine .regs; memory = b .memory; outputs = b .outputs })
       (didTimes E (1 + h) (momentOf b)))

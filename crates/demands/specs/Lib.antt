@@ -11,7 +11,7 @@ pub mod Outside
 pub mod Rows
 pub mod Course
 pub mod Board
-pub mod Between
+pub mod Begins
 pub mod Legs
 pub mod Costs
 pub mod Calls

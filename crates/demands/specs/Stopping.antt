@@ -14,9 +14,9 @@ use Rattle.run.specs.declared.answer.Ran.{Ran}
 use Rattle.run.specs.declared.answer.Answer.the-variants.{Done, Stopped}
 use Rattle.run.specs.Outcome.{answerOf}
 use Rattle.demands.specs.Outside.{Outside, outsideOf, down}
-use Rattle.demands.specs.Rows.{Row}
+use Rattle.demands.specs.Rows.{Unbroken}
 use Rattle.demands.specs.Board.{Board}
-use Rattle.demands.specs.Between.{Beginning}
+use Rattle.demands.specs.Begins.{Beginning}
 use Rattle.demands.specs.Legs.{Tally, statesIn, opcodeAt, Trip}
 use Rattle.demands.specs.Calls.{worldOn, givenBack}
 
@@ -37,7 +37,7 @@ pub record StopsAt (E : Outside) (b : Board) (n : ℕ) (b' : Board) : Type 0 whe
   pub kept : at .machine .kept ≡ keptFor None 0
   pub undefined : definedOf (opcodeAt at) ≡ false
   pub waits : ℕ
-  pub row : Row (down E) (at .machine .clock + 1) waits
+  pub row : Unbroken (down E) (at .machine .clock + 1) waits
   pub states : n ≡ statesIn tallied + 3 + waits
   pub stopped : b' .machine .next ≡ Stop
   pub regs : b' .machine .regs ≡ withPc (upOf (at .machine .regs .pc) 1) (at .machine .regs)

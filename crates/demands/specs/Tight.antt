@@ -10,7 +10,7 @@ use Rattle.machine.specs.Record.{coldOf, withRegs}
 use Rattle.run.specs.Run.{World}
 use Rattle.demands.specs.Board.{Board, boardOf}
 use Rattle.demands.specs.Own.{own}
-use Rattle.demands.specs.Between.{Beginning, Acknowledges}
+use Rattle.demands.specs.Begins.{Beginning, Acknowledges}
 use Rattle.demands.specs.Calls.{Reached}
 use Rattle.demands.specs.Cards.{ports}
 use Rattle.demands.specs.Bound.{sumBelow, worldAt, Rises}
