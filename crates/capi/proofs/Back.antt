@@ -7,7 +7,6 @@ use mathlib.Core.List.{List}
 use lib.Dec.{eqb, leb}
 use lib.ListN.{length}
 use borrow.Author.Tests.{eq-eqb}
-use Rattle.alu.specs.Flags.{bitOf}
 use Rattle.opcodes.specs.declared.cycle.Acknowledge.{Acknowledge}
 use Rattle.opcodes.specs.declared.cycle.Acknowledge.the-variants.{None, Running, Halted}
 use Rattle.machine.specs.declared.record.Position.{Position}
@@ -16,12 +15,12 @@ use Rattle.machine.specs.declared.record.Machine.{Machine}
 use Rattle.machine.specs.Record.{coldOf, withRegs}
 use Rattle.machine.specs.Well.{fixedOf, wellOf}
 use Rattle.schedule.specs.Events.{all}
-use Rattle.saved.specs.Fields.{wordAt, longAt, registersIn, linesIn}
-use Rattle.saved.proofs.Numbers.{word-back, long-back}
-use Rattle.capi.specs.Flat.{nextByte, cycleByte, stateByte, acknowledgeByte, flatOf, recordWith}
+use Rattle.saved.specs.Header.{headerWith}
+use Rattle.saved.proofs.Back.{bit-range, registers-back, lines-back, clock-back}
+use Rattle.capi.specs.Flat.{nextByte, cycleByte, stateByte, acknowledgeByte, insideBytes, flatOf, recordWith}
 use Rattle.capi.specs.Handed.{positionIn, acknowledgeIn, keptIn, recordedOf, placeFits, formedOf, brokenOf, handedOf}
 
--- what comes next, the acknowledge and INTE, from their bytes
+-- what comes next and the acknowledge, from their bytes
 position-back : (p : Position) → positionIn (nextByte p) (cycleByte p) (stateByte p) ≡ p
 unfolding positionIn nextByte cycleByte stateByte
 position-back Fetch = refl
@@ -37,29 +36,13 @@ acknowledge-back None = refl
 acknowledge-back Running = refl
 acknowledge-back Halted = refl
 
-bit-back : (b : Bool) → eqb (bitOf b) 1 ≡ b
-bit-back true = refl
-bit-back false = refl
-
 pub read-flat : (m : Machine) → recordedOf (flatOf m) ≡ m
-unfolding recordedOf flatOf keptIn registersIn linesIn wordAt longAt
+unfolding recordedOf flatOf keptIn headerWith
 read-flat m =
+    let what = nextByte (m .next) in
     λ i.
     record {
-      regs =
-          record {
-            a = m .regs .a;
-            f = m .regs .f;
-            b = m .regs .b;
-            c = m .regs .c;
-            d = m .regs .d;
-            e = m .regs .e;
-            h = m .regs .h;
-            l = m .regs .l;
-            sp = word-back (m .regs .sp) i;
-            pc = word-back (m .regs .pc) i;
-            inte = bit-back (m .regs .inte) i;
-          };
+      regs = registers-back what m (insideBytes m) i;
       kept =
           record {
             opcode = m .kept .opcode;
@@ -70,16 +53,12 @@ read-flat m =
             b3 = m .kept .b3;
             b4 = m .kept .b4;
           };
-      lines = m .lines;
-      clock = long-back (m .clock) i;
+      lines = lines-back what m (insideBytes m) i;
+      clock = clock-back what m (insideBytes m) i;
       next = position-back (m .next) i;
     }
 
 -- each byte that is written is inside its range
-bit-range : (b : Bool) → leb (bitOf b) 1 ≡ true
-bit-range true = refl
-bit-range false = refl
-
 place-range : (p : Position) → (leb (nextByte p) 5 && placeFits (nextByte p) (cycleByte p) (stateByte p)) ≡ true
 unfolding nextByte cycleByte stateByte placeFits
 place-range Fetch = refl
@@ -105,12 +84,12 @@ in-order true false ack place e f g = f
 in-order false what ack place e f g = e
 
 pub flat-formed : (m : Machine) → formedOf (flatOf m) ≡ true
-unfolding formedOf flatOf all
+unfolding formedOf flatOf headerWith all
 flat-formed m =
     in-order _ _ _ _ (bit-range (m .regs .inte)) (place-range (m .next)) (acknowledge-range (m .kept .ack))
 
 flat-size : (m : Machine) → length (flatOf m) ≡ 64
-unfolding flatOf
+unfolding flatOf headerWith
 flat-size m = refl
 
 pub handed-flat : (m : Machine) → handedOf (flatOf m) ≡ m

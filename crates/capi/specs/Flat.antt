@@ -11,7 +11,7 @@ use Rattle.effect.specs.declared.kept.Kept.{Kept}
 use Rattle.machine.specs.declared.record.Position.{Position}
 use Rattle.machine.specs.declared.record.Position.the-variants.{Fetch, Later, Wait, Hold, Halt, Stop}
 use Rattle.machine.specs.declared.record.Machine.{Machine}
-use Rattle.saved.specs.Header.{fourBytes, registerBytes, lineBytes}
+use Rattle.saved.specs.Header.{headerWith}
 
 -- what comes next, its cycle and its state, 0 where none is named
 unfoldable pub nextByte : Position → ℕ
@@ -53,16 +53,13 @@ abbrev pub noughts : ℕ → List ℕ
 noughts zero = []
 noughts (suc n) = 0 ∷ noughts n
 
+-- behind the first 24 bytes: the place inside an instruction, what is kept, zeros
+abbrev pub insideBytes : Machine → List ℕ
+insideBytes m = cycleByte (m .next) ∷ stateByte (m .next) ∷ (keptBytes (m .kept) ++ noughts 31)
+
 -- the 64 bytes of the machine m
 unfoldable pub flatOf : Machine → List ℕ
-flatOf m =
-    registerBytes (m .regs)
-    ++ nextByte (m .next)
-    ∷ (fourBytes (m .clock)
-    ++ lineBytes (m .lines)
-    ++ cycleByte (m .next)
-    ∷ stateByte (m .next)
-    ∷ (keptBytes (m .kept) ++ noughts 31))
+flatOf m = headerWith (nextByte (m .next)) m ++ insideBytes m
 
 -- the record z with the machine m in it: a list that is no record stays
 unfoldable pub recordWith : List ℕ → Machine → List ℕ

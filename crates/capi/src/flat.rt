@@ -2,11 +2,11 @@
 ghost use mathlib.Core.Path.{_≡_};
 ghost use Rattle.capi.specs.Calls.{recordBy};
 ghost use Rattle.capi.specs.Flat.{nextByte, cycleByte, stateByte, acknowledgeByte, flatOf, recordWith};
-use alu::flags::bit;
 use machine::record::Machine;
 use machine::record::Position;
 use opcodes::cycle::Acknowledge;
 use run::answer::Answer;
+use saved::header::header_with;
 
 // What comes next: 0 fetch, 1 halt state, 2 stop, 3 later state, 4 wait, 5 hold.
 pub(crate) fn next_byte(p: Position) -> u8
@@ -65,82 +65,22 @@ fn acknowledge_byte(ack: Acknowledge) -> u8
 fn flat(m: Machine) -> [u8; 64]
     ensures { λ h. ⌜ h ≡ flatOf m ⌝ }
 {
-    let regs = m.regs;
     let kept = m.kept;
-    let lines = m.lines;
     let next = m.next;
     let ack = kept.ack;
-    let inte = bit(regs.inte);
-    let what = next_byte(next);
-    let cycle = cycle_byte(next);
-    let state = state_byte(next);
-    let acknowledge = acknowledge_byte(ack);
-    [
-        regs.a,
-        regs.f,
-        regs.b,
-        regs.c,
-        regs.d,
-        regs.e,
-        regs.h,
-        regs.l,
-        (regs.sp % 256) as u8,
-        (regs.sp / 256) as u8,
-        (regs.pc % 256) as u8,
-        (regs.pc / 256) as u8,
-        inte,
-        what,
-        (m.clock % 256) as u8,
-        (m.clock / 256 % 256) as u8,
-        (m.clock / 65536 % 256) as u8,
-        (m.clock / 16777216) as u8,
-        lines.ready,
-        lines.hold,
-        lines.int,
-        0,
-        0,
-        0,
-        cycle,
-        state,
-        kept.opcode,
-        acknowledge,
-        kept.rst,
-        kept.b1,
-        kept.b2,
-        kept.b3,
-        kept.b4,
-        0,
-        0,
-        0,
-        0,
-        0,
-        0,
-        0,
-        0,
-        0,
-        0,
-        0,
-        0,
-        0,
-        0,
-        0,
-        0,
-        0,
-        0,
-        0,
-        0,
-        0,
-        0,
-        0,
-        0,
-        0,
-        0,
-        0,
-        0,
-        0,
-        0,
-        0,
-    ]
+    let first = header_with(next_byte(next), m);
+    let mut h = [0; 64];
+    bytes::copy(&first, &mut h);
+    h[24] = cycle_byte(next);
+    h[25] = state_byte(next);
+    h[26] = kept.opcode;
+    h[27] = acknowledge_byte(ack);
+    h[28] = kept.rst;
+    h[29] = kept.b1;
+    h[30] = kept.b2;
+    h[31] = kept.b3;
+    h[32] = kept.b4;
+    h
 }
 
 // The machine goes into a record of 64 bytes; any other stays as it is.

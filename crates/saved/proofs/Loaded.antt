@@ -22,7 +22,7 @@ use Rattle.machine.specs.Cycle.{cyclesOf}
 use Rattle.machine.specs.Ending.{clearOf}
 use Rattle.machine.specs.Well.{fixedOf, levelsListed, thereOf, wellOf}
 use Rattle.machine.proofs.Ends.{clear-well}
-use Rattle.saved.specs.Header.{fetchMode, modeOf, betweenOf, headerOf, savedOf}
+use Rattle.saved.specs.Header.{fetchMode, modeOf, betweenOf, headerWith, headerOf, savedOf}
 use Rattle.saved.specs.Fields.{wordAt, longAt, registersIn, linesIn, positionOf, machineIn, portsIn, memoryIn, inRange}
 use Rattle.saved.proofs.Numbers.{word-low, word-high, long-first, long-second, long-third, long-last}
 
@@ -89,7 +89,7 @@ module _ (s : List ℕ) (size : length s ≡ 65816) (bytes : Bytes s) where
 
   -- the header, byte by byte
   loaded-heads : Ranged s → headerOf (machineIn s) ≡ tabulate (λ i. getD s i 0) 24 0
-  unfolding headerOf machineIn registersIn linesIn wordAt longAt
+  unfolding headerOf headerWith machineIn registersIn linesIn wordAt longAt
   loaded-heads r =
       let sp = byte 8 (omega arith) in
       let pc = byte 10 (omega arith) in

@@ -7,7 +7,7 @@ use lib.ListN.{length, take, drop, length-append, length-take, length-drop, drop
 use lib.Seq.{take-at, take-all, take-length, slice-empty, drop-append-add}
 use borrow.Rule.Slice.PartMut.{midOf, putMid, post-is}
 use Rattle.machine.specs.declared.record.Machine.{Machine}
-use Rattle.saved.specs.Header.{headerOf, savedOf}
+use Rattle.saved.specs.Header.{headerWith, headerOf, savedOf}
 use Rattle.saved.specs.Fields.{portsIn, memoryIn}
 use Rattle.saved.specs.Put.{putAt}
 
@@ -52,7 +52,7 @@ put-three h o x z e f g k =
 -- the three parts of a saved form, put one after the other
 pub written : (m : Machine) (o x z h z₁ z₂ z₃ : List ℕ) → length o ≡ 256 → length x ≡ 65536 → length z ≡ 65816
     → h ≡ headerOf m → z₁ ≡ putAt z 0 h → z₂ ≡ putAt z₁ 24 o → z₃ ≡ putAt z₂ 280 x → z₃ ≡ savedOf m o x
-unfolding savedOf headerOf
+unfolding savedOf headerOf headerWith
 written m o x z h z₁ z₂ z₃ f g k e p q r =
     r
     ∙ ap (λ (l : List ℕ). putAt l 280 x) (q ∙ ap (λ (l : List ℕ). putAt l 24 o) (p ∙ ap (putAt z 0) e))

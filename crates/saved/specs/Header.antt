@@ -47,10 +47,13 @@ registerBytes r =
 abbrev pub lineBytes : Lines → List ℕ
 lineBytes l = l .ready ∷ l .hold ∷ l .int ∷ 0 ∷ 0 ∷ 0 ∷ []
 
--- the 24 bytes of the machine m: its registers, "mode", "clock (4, low first)", its lines
+-- the 24 bytes of the machine m: its registers, the byte what, "clock (4, low first)", its lines
+unfoldable pub headerWith : ℕ → Machine → List ℕ
+headerWith what m = registerBytes (m .regs) ++ what ∷ (fourBytes (m .clock) ++ lineBytes (m .lines))
+
+-- its header in the saved form, where that byte is "mode"
 unfoldable pub headerOf : Machine → List ℕ
-headerOf m =
-    registerBytes (m .regs) ++ modeOf (m .kept) (m .next) ∷ (fourBytes (m .clock) ++ lineBytes (m .lines))
+headerOf m = headerWith (modeOf (m .kept) (m .next)) m
 
 -- "Then 256 output ports, then memory"
 unfoldable pub savedOf : Machine → List ℕ → List ℕ → List ℕ

@@ -1,6 +1,6 @@
 // The 24 bytes before the ports and the memory.
 ghost use mathlib.Core.Path.{_≡_};
-ghost use Rattle.saved.specs.Header.{fetchMode, modeOf, betweenOf, headerOf};
+ghost use Rattle.saved.specs.Header.{fetchMode, modeOf, betweenOf, headerWith, headerOf};
 use alu::flags::bit;
 use effect::kept::Kept;
 use machine::record::Machine;
@@ -45,14 +45,12 @@ pub(crate) fn between(m: Machine) -> bool
     mode(kept, next) < NO_MODE
 }
 
-// The header of a machine that is between instructions.
-pub(crate) fn header(m: Machine) -> [u8; 24]
-    ensures { λ h. ⌜ h ≡ headerOf m ⌝ }
+// The 24 bytes of a machine, with the byte what at 13.
+pub fn header_with(what: u8, m: Machine) -> [u8; 24]
+    ensures { λ h. ⌜ h ≡ headerWith what m ⌝ }
 {
     let regs = m.regs;
-    let kept = m.kept;
     let lines = m.lines;
-    let next = m.next;
     [
         regs.a,
         regs.f,
@@ -67,7 +65,7 @@ pub(crate) fn header(m: Machine) -> [u8; 24]
         (regs.pc % 256) as u8,
         (regs.pc / 256) as u8,
         bit(regs.inte),
-        mode(kept, next),
+        what,
         (m.clock % 256) as u8,
         (m.clock / 256 % 256) as u8,
         (m.clock / 65536 % 256) as u8,
@@ -79,4 +77,13 @@ pub(crate) fn header(m: Machine) -> [u8; 24]
         0,
         0,
     ]
+}
+
+// The header of a machine that is between instructions.
+pub(crate) fn header(m: Machine) -> [u8; 24]
+    ensures { λ h. ⌜ h ≡ headerOf m ⌝ }
+{
+    let kept = m.kept;
+    let next = m.next;
+    header_with(mode(kept, next), m)
 }

@@ -13,7 +13,7 @@ pub mod answer;
 mod check;
 pub mod fields;
 mod form;
-mod header;
+pub mod header;
 
 // The machine, 256 output ports and 65,536 bytes of memory go into an output of 65,816 bytes; or a refusal that changes
 // nothing.

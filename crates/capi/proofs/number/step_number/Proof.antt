@@ -1,11 +1,28 @@
 -- `capi::number::step_number` meets its contract.
 -- Assumes nothing.
+use mathlib.Core.Path.{_≡_}
+use lib.Dec.{eqb}
 use borrow.Author.Tests.{eq-eqb, ne-eqb, not-true, not-false}
+use Rattle.laws.specs.Choice.{pick}
 use Rattle.capi.specs.Numbers.{stepNumber}
 use Rattle.capi.proofs.Steps.{stop-byte}
 use borrow.Author.Needs.{needs}
 use Rattle.capi.proofs.number.step_number.Statement.{statement}
 use Rattle.capi.proofs.number.step_number.Tie as tie
+
+-- past the tests 8 and 9 the number goes by the byte of what comes next
+by-byte : (c : tie.After-next-byte)
+    → stepNumber (c .before .before .before .before .before .args .m) ≡ pick (eqb (c .next-byte .result) 2) 10 0
+unfolding stepNumber
+by-byte c =
+    let test = c .before .before .before in
+    simp (
+      stop-byte,
+      ← (c .next-byte .ensures),
+      ne-eqb _ _ (c .before .if2 .left),
+      not-false (test .before .well .result) (test .if1 .left),
+      ← (test .before .well .ensures),
+    )
 
 pub step-number-spec : {M : Type 1} → statement M
 unfolding stepNumber
@@ -16,26 +33,5 @@ step-number-spec =
     (λ c.
     let test = c .before .before in
     simp (eq-eqb _ _ (c .if2 .taken), not-false (test .before .well .result) (test .if1 .left), ← (test .before .well .ensures)))
-    (search needs)
-    (λ c.
-    let clock = c .before .before in
-    let test = clock .before .before in
-    simp (
-      stop-byte,
-      ← (c .before .next-byte .ensures),
-      eq-eqb _ _ (c .if3 .taken),
-      ne-eqb _ _ (clock .if2 .left),
-      not-false (test .before .well .result) (test .if1 .left),
-      ← (test .before .well .ensures),
-    ))
-    (λ c.
-    let clock = c .before .before in
-    let test = clock .before .before in
-    simp (
-      stop-byte,
-      ← (c .before .next-byte .ensures),
-      ne-eqb _ _ (c .if3 .left),
-      ne-eqb _ _ (clock .if2 .left),
-      not-false (test .before .well .result) (test .if1 .left),
-      ← (test .before .well .ensures),
-    )))
+    (search needs) (λ c. simp (by-byte (c .before), eq-eqb _ _ (c .if3 .taken)))
+    (λ c. simp (by-byte (c .before), ne-eqb _ _ (c .if3 .left))))

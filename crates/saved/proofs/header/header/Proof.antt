@@ -9,6 +9,4 @@ pub header-spec : {M : Type 1} → statement M
 unfolding headerOf
 header-spec =
     tie.close
-    (tie.spec (search needs) (search needs) (search needs) (search needs) (search needs) (search needs) (search needs)
-    (search needs) (search needs) (search needs)
-    (λ c. rw (← (c .before .before .before .before .mode .ensures), ← (c .before .before .before .before .before .bit .ensures .0))))
+    (tie.spec (search needs) (search needs) (λ c. simp (c .header-with .ensures, ← (c .before .mode .ensures))))
