@@ -1,28 +1,27 @@
 -- An instruction that is under way has states left. Here cycles count from 0. Assumes nothing.
 use Prim.Native.Nat.{ℕ, suc, _+_, _-_, _≤_, _<_}
-use mathlib.Core.Path.{_≡_, refl, sym, ap, ap₂, _∙_, subst}
-use mathlib.Core.Bool.{Bool, true, false, true≢false}
+use mathlib.Core.Path.{_≡_, refl, sym, ap₂, _∙_, subst}
+use mathlib.Core.Bool.{Bool, true, true≢false}
 use mathlib.Core.List.{List, [], _∷_}
 use mathlib.Core.Logic.{_⊎_, inl, inr, ⊎-elim}
 use native.Mathlib.Omega.{arith}
 use lib.Dec.{T}
 use Rattle.laws.proofs.Order.{lt-or-le}
-use Rattle.laws.proofs.Tests.{true→T}
 use Rattle.opcodes.specs.Codes.{fetch4}
 use Rattle.opcodes.specs.Cycles.{definedOf}
 use Rattle.opcodes.specs.Kinds.{statesOf, waitsOf}
 use Rattle.opcodes.specs.Totals.{totalOf, shape}
 use Rattle.demands.specs.Outside.{Outside, Moment, down, up}
 use Rattle.demands.specs.Rows.{Through, Unbroken, Waits, Forced, one}
-use Rattle.demands.proofs.Work.{Work, useCycle, opcodeOf}
+use Rattle.demands.proofs.Work.{Work, useCycle}
 use Rattle.demands.specs.Board.{Board}
-use Rattle.demands.specs.Course.{courseOf}
 use Rattle.demands.proofs.Stretches.{waits-one}
 use Rattle.demands.proofs.Steps.{size}
-use Rattle.demands.proofs.Courses.{code-at, shape-parts, later-size, course-shape, shape-some}
+use Rattle.demands.proofs.Courses.{shape-parts, later-size, course-shape, shape-some}
 use Rattle.demands.proofs.Phases.{Early, Late, second, waiting, third, fourth, fifth, holding}
 use Rattle.demands.proofs.Fetches.{fetch-waits}
-use Rattle.demands.proofs.Going.{Going, begin, reading, read, first, early, late}
+use Rattle.demands.proofs.Overs.{first-states}
+use Rattle.demands.proofs.Going.{op, cs, afterFetch, Going, begin, reading, read, first, early, late}
 
 -- a stretch is not longer than its row
 pub row-longer : (f : ℕ → Bool) (t j n : ℕ) → Through f t (suc j) → Unbroken f t n → j < n
@@ -56,15 +55,9 @@ module _ (E : Outside) (x : ℕ) (l : List ℕ) (t : Moment) where
       row-longer (up E) (t .clock + (s + K - 1)) j H th (subst (λ (v : ℕ). Unbroken (up E) v H) p r) in
       omega arith
 
-module _ (E : Outside) (d₀ : Work) (t₀ : Moment) (d : definedOf (opcodeOf E d₀) ≡ true) where
-  abbrev op : ℕ
-  op = opcodeOf E d₀
-
-  abbrev cs : List ℕ
-  cs = courseOf op (d₀ .regs .f)
-
-  first-before : (l : List ℕ) {b : Board} {i o w h : ℕ} → cs ≡ l → T (shape l)
-      → Early E d₀ 0 fetch4 t₀ b i o ⊎ Late E (useCycle E fetch4 0 d₀) 0 fetch4 (size 0 op) t₀ b i o
+module _ (E : Outside) (d₀ : Work) (t₀ : Moment) (d : definedOf (op E d₀) ≡ true) where
+  first-before : (l : List ℕ) {b : Board} {i o w h : ℕ} → cs E d₀ ≡ l → T (shape l)
+      → Early E d₀ 0 fetch4 t₀ b i o ⊎ Late E (afterFetch E d₀) 0 fetch4 (size 0 (op E d₀)) t₀ b i o
       → Forced E l (t₀ .clock) w h → i < totalOf l + w + h
   first-before [] e s v f = absurd s
   first-before (x ∷ l) e s (inl v) f =
@@ -73,15 +66,15 @@ module _ (E : Outside) (d₀ : Work) (t₀ : Moment) (d : definedOf (opcodeOf E 
       let q = early-before E x l t₀ d₀ 0 fetch4 (fetch-waits x (p .fetches) (p .first)) three v f in omega arith
   first-before (x ∷ l) e s (inr v) f =
       let p = shape-parts x l s in
-      let n : statesOf x ≡ size 0 op = sym (ap statesOf (code-at op (true→T (definedOf op) d) (d₀ .regs .f) 0 x l e)) in
+      let n = first-states E d₀ x l d e in
       let q =
-      late-before E x l t₀ (useCycle E fetch4 0 d₀) 0 fetch4 (size 0 op) (fetch-waits x (p .fetches) (p .first)) n v f in
+      late-before E x l t₀ (afterFetch E d₀) 0 fetch4 (size 0 (op E d₀)) (fetch-waits x (p .fetches) (p .first)) n v f in
       omega arith
 
-  pub going-before : {b : Board} {i o w h : ℕ} → Going E d₀ t₀ b i o → Forced E cs (t₀ .clock) w h → i < totalOf cs + w + h
-  going-before begin f = let z = shape-some cs (course-shape op (d₀ .regs .f) d) in omega arith
-  going-before (reading v) f = first-before cs refl (course-shape op (d₀ .regs .f) d) (inl v) f
-  going-before (read z v) f = first-before cs refl (course-shape op (d₀ .regs .f) d) (inr v) f
+  pub going-before : {b : Board} {i o w h : ℕ} → Going E d₀ t₀ b i o → Forced E (cs E d₀) (t₀ .clock) w h → i < totalOf (cs E d₀) + w + h
+  going-before begin f = let z = shape-some (cs E d₀) (course-shape (op E d₀) (d₀ .regs .f) d) in omega arith
+  going-before (reading v) f = first-before (cs E d₀) refl (course-shape (op E d₀) (d₀ .regs .f) d) (inl v) f
+  going-before (read z v) f = first-before (cs E d₀) refl (course-shape (op E d₀) (d₀ .regs .f) d) (inr v) f
   going-before {w = w} {h = h} (first c d' t i o x y l s) f =
       let r = s .apart w h f in
       let three : 3 ≤ statesOf y = ⊎-elim (λ z. omega arith) (λ z. omega arith) (later-size y l (s .later)) in

@@ -17,10 +17,10 @@ use Rattle.machine.proofs.Levels.{levels-kept}
 use Rattle.schedule.specs.Levels.{levelsAt}
 use Rattle.run.specs.State.{asked, heard, memoryAfter, outputsAfter}
 use Rattle.run.specs.Run.{World, stoppedOf, eventfulOf, stateOf, runOf}
-use Rattle.demands.specs.Outside.{Outside, levelsFrom, intIn, outsideOf}
+use Rattle.demands.specs.Outside.{Outside, levelsFrom, outsideOf}
 use Rattle.demands.specs.Board.{Board, boardOf}
 use Rattle.demands.proofs.Steps.{driven, stateFrom, step, run}
-use Rattle.demands.proofs.Lines.{ready-only, hold-only, int-only}
+use Rattle.demands.proofs.Lines.{ready-only, hold-only, event-int}
 
 -- the clock of a machine that has not stopped counts one state
 ticked : (p : Position) (t : ℕ) → stoppedOf p ≡ false → t < 4294967295 → tickedOf p t ≡ t + 1
@@ -54,41 +54,38 @@ module _ (s inputs : List ℕ) (m₀ : Machine) where
 
   -- the events give the levels of the state
   module _ (j : ℕ) (m : Machine) (k : Tracks j m) where
-    back : m .clock - m₀ .clock ≡ j
-    back = omega (arith, k .clock)
+    -- a level that comes from its own events alone
+    level-is : (f : Lines → ℕ)
+        → ((l : Lines) → f (m .lines) ≡ f l
+        → f (levelsAt s (length s / 6) (m .clock) (m .lines)) ≡ f (levelsAt s (length s / 6) (m .clock) l))
+        → f (m .lines) ≡ f (levelsBefore j) → f (eventfulOf s m .lines) ≡ f (levelsFrom s (m₀ .clock) (m₀ .lines) j)
+    unfolding eventfulOf withLines
+    level-is f only e =
+        only (levelsBefore j) e
+        ∙ ap (λ (u : ℕ). f (levelsAt s (length s / 6) u (levelsBefore j))) (k .clock)
+        ∙ ap f (sym (level-step j))
 
-    ready-is : levelsAt s (length s / 6) (m .clock) (m .lines) .ready ≡ E .ready (m .clock)
-    unfolding outsideOf
-    ready-is =
-        ready-only s (m .clock) (length s / 6) (m .lines) (levelsBefore j) (k .ready)
-        ∙ ap (λ (u : ℕ). levelsAt s (length s / 6) u (levelsBefore j) .ready) (k .clock)
-        ∙ ap (λ (l : Lines). l .ready) (sym (level-step j))
-        ∙ ap (λ (i : ℕ). levelsFrom s (m₀ .clock) (m₀ .lines) i .ready) (sym back)
+    ready-is : eventfulOf s m .lines .ready ≡ levelsFrom s (m₀ .clock) (m₀ .lines) j .ready
+    ready-is = level-is (λ l. l .ready) (ready-only s (m .clock) (length s / 6) (m .lines)) (k .ready)
 
-    hold-is : levelsAt s (length s / 6) (m .clock) (m .lines) .hold ≡ E .hold (m .clock)
-    unfolding outsideOf
-    hold-is =
-        hold-only s (m .clock) (length s / 6) (m .lines) (levelsBefore j) (k .hold)
-        ∙ ap (λ (u : ℕ). levelsAt s (length s / 6) u (levelsBefore j) .hold) (k .clock)
-        ∙ ap (λ (l : Lines). l .hold) (sym (level-step j))
-        ∙ ap (λ (i : ℕ). levelsFrom s (m₀ .clock) (m₀ .lines) i .hold) (sym back)
+    hold-is : eventfulOf s m .lines .hold ≡ levelsFrom s (m₀ .clock) (m₀ .lines) j .hold
+    hold-is = level-is (λ l. l .hold) (hold-only s (m .clock) (length s / 6) (m .lines)) (k .hold)
 
-    int-is : levelsAt s (length s / 6) (m .clock) (m .lines) .int ≡ E .int (m .clock) (m .lines .int)
-    unfolding outsideOf intIn
-    int-is = int-only s (m .clock) (length s / 6) (m .lines) (record { ready = 0; hold = 0; int = m .lines .int }) refl
+    -- the state j by its number
+    from : levelsFrom s (m₀ .clock) (m₀ .lines) j ≡ levelsFrom s (m₀ .clock) (m₀ .lines) (m .clock - m₀ .clock)
+    from = ap (levelsFrom s (m₀ .clock) (m₀ .lines)) (let e : j ≡ m .clock - m₀ .clock = omega (arith, k .clock) in e)
 
     pub same-levels : eventfulOf s m ≡ driven E m
-    unfolding eventfulOf driven withLines
+    unfolding eventfulOf driven withLines outsideOf
     same-levels =
-        λ i. withLines (record { ready = ready-is i; hold = hold-is i; int = int-is i }) m
-
-    levels-ready : E .ready (m .clock) ≡ levelsFrom s (m₀ .clock) (m₀ .lines) j .ready
-    unfolding outsideOf
-    levels-ready = ap (λ (i : ℕ). levelsFrom s (m₀ .clock) (m₀ .lines) i .ready) back
-
-    levels-hold : E .hold (m .clock) ≡ levelsFrom s (m₀ .clock) (m₀ .lines) j .hold
-    unfolding outsideOf
-    levels-hold = ap (λ (i : ℕ). levelsFrom s (m₀ .clock) (m₀ .lines) i .hold) back
+        λ i.
+        withLines
+        (record {
+          ready = (ready-is ∙ ap (λ (l : Lines). l .ready) from) i;
+          hold = (hold-is ∙ ap (λ (l : Lines). l .hold) from) i;
+          int = event-int s m i;
+        })
+        m
 
     -- one state more
     tracks-on : (v : ℕ) → stoppedOf (m .next) ≡ false → m .clock < 4294967295 → Tracks (suc j) (stepOf v (eventfulOf s m))
@@ -96,8 +93,8 @@ module _ (s inputs : List ℕ) (m₀ : Machine) where
     tracks-on v f h =
         record {
           clock = ticked (m .next) (m .clock) f h ∙ omega (arith, k .clock);
-          ready = levels-kept v (eventfulOf s m) .0 ∙ ready-is ∙ levels-ready;
-          hold = levels-kept v (eventfulOf s m) .1 ∙ hold-is ∙ levels-hold;
+          ready = levels-kept v (eventfulOf s m) .0 ∙ ready-is;
+          hold = levels-kept v (eventfulOf s m) .1 ∙ hold-is;
         }
 
   state-as : (w : World) (m : Machine) → m .clock ≡ w .machine .clock → m .next ≡ w .machine .next

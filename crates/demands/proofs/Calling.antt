@@ -8,7 +8,6 @@ use lib.Dec.{T}
 use Rattle.laws.specs.Choice.{pick}
 use Rattle.machine.specs.Well.{wellOf}
 use Rattle.machine.specs.Record.{withLines, withClock}
-use Rattle.run.specs.declared.answer.Verdict.the-variants as verdict
 use Rattle.run.specs.declared.answer.Ran.{Ran}
 use Rattle.run.specs.Run.{World, stoppedOf, runOf}
 use Rattle.run.specs.Outcome.{leftOf}

@@ -5,12 +5,13 @@ use mathlib.Core.Bool.{Bool, false}
 use mathlib.Core.List.{List, [], _∷_}
 use lib.ListN.{length, length-set, length-replicate, replicate}
 use Rattle.effect.specs.declared.registers.Registers.{Registers}
+use Rattle.machine.specs.declared.record.Machine.{Machine}
 use Rattle.machine.specs.Record.{coldOf, withRegs}
 use Rattle.run.specs.declared.answer.Verdict.{Verdict}
 use Rattle.run.specs.declared.answer.Verdict.the-variants as verdict
 use Rattle.run.specs.Run.{World, stoppedOf, runOf}
 use Rattle.run.specs.Check.{checkOf}
-use Rattle.run.specs.Outcome.{verdictOf, answeredOf}
+use Rattle.run.specs.Outcome.{startOf, verdictOf, answeredOf}
 use Rattle.run.proofs.Laws.{good-left, good-answer}
 use Rattle.demands.specs.Cards.{Cell, Shown, Card, stored, cardWorld, ports, cardLeaves, shownIn, Passes}
 
@@ -21,15 +22,21 @@ length-stored (c ∷ cs) x = length-stored cs _ ∙ length-set x (c .address) (c
 pub zeros : (n : ℕ) → length (replicate {A = ℕ} n 0) ≡ n
 zeros n = length-replicate n 0
 
+-- a call over a trace and ports of zeros passes the tests by its lengths
+pub lengths-good : (m : Machine) (x s : List ℕ) (k n : ℕ) → length x ≡ 65536 → checkOf m 65536 256 256 s k n ≡ verdict.Good
+    → verdictOf (startOf m x ports (replicate k 0)) ports s n ≡ verdict.Good
+unfolding verdictOf
+lengths-good m x s k n e f = rw (e, zeros 256, zeros k) f
+
 -- the tests of a card's call, its memory being as long as it is
 abbrev pub fair : Card → Verdict
 fair k =
     checkOf (withRegs (k .before) coldOf) 65536 256 256 (k .events) (8 * length (k .states)) (length (k .states))
 
 good : (k : Card) → fair k ≡ verdict.Good → verdictOf (cardWorld k) ports (k .events) (length (k .states)) ≡ verdict.Good
-unfolding verdictOf
 good k f =
-    rw (length-stored (k .program) (replicate 65536 0), zeros 65536, zeros 256, zeros (8 * length (k .states))) f
+    lengths-good (withRegs (k .before) coldOf) (stored (k .program) (replicate 65536 0)) (k .events) (8 * length (k .states))
+    (length (k .states)) (length-stored (k .program) (replicate 65536 0) ∙ zeros 65536) f
 
 -- the states of a card's call
 abbrev pub ran : Card → World

@@ -10,7 +10,7 @@ use borrow.Author.Tests.{le-leb, lt-leb, lt-ltb}
 use lib.Dec.{eqb, ltb, leb, T, eqb→eq, leb→le}
 use lib.ListN.{length, getD, drop, length-drop}
 use Rattle.laws.proofs.Every.{every, below, and-left, and-right}
-use Rattle.laws.proofs.Tests.{or-either}
+use Rattle.laws.proofs.Tests.{or-either, true→T}
 use Rattle.opcodes.specs.Condition.{metOf}
 use Rattle.opcodes.specs.Instructions.{decode}
 use Rattle.opcodes.specs.Cycles.{cycles, codeOf, countOf, definedOf, cycling}
@@ -18,18 +18,16 @@ use Rattle.opcodes.specs.Kinds.{statesOf, isFetch}
 use Rattle.opcodes.specs.Totals.{totalOf, laterShape, shape, listedTotal}
 use Rattle.opcodes.proofs.Counts.{defined-byte, count-few}
 use Rattle.opcodes.proofs.Totals.{total-is, shape-is}
-use Rattle.laws.proofs.Tests.{true→T}
 use Rattle.machine.specs.Cycle.{afterOf, cyclesOf}
 use Rattle.effect.specs.declared.registers.Registers.{Registers}
 use Rattle.demands.specs.Course.{courseOf}
 use Rattle.demands.proofs.Steps.{next}
 
 -- places in a list
-pub drop-nil : (c code : ℕ) (l : List ℕ) → drop c [] ≡ code ∷ l → ⊥
-drop-nil zero code l e = let z : _≡_ {A = ℕ} 0 1 = cc in omega arith
-drop-nil (suc c) code l e = let z : _≡_ {A = ℕ} 0 1 = cc in omega arith
+drop-nil : (c code : ℕ) (l : List ℕ) → drop c [] ≡ code ∷ l → ⊥
+drop-nil c code l e = omega (arith, length-drop {A = ℕ} c [], ap length e)
 
-pub drop-at : (cs : List ℕ) (c code : ℕ) (l : List ℕ) → drop c cs ≡ code ∷ l → getD cs c 0 ≡ code
+drop-at : (cs : List ℕ) (c code : ℕ) (l : List ℕ) → drop c cs ≡ code ∷ l → getD cs c 0 ≡ code
 drop-at [] c code l e = absurd (drop-nil c code l e)
 drop-at (x ∷ cs) zero code l e = cc
 drop-at (x ∷ cs) (suc c) code l e = drop-at cs c code l e
@@ -40,9 +38,7 @@ drop-next (x ∷ cs) zero code l e = cc
 drop-next (x ∷ cs) (suc c) code l e = drop-next cs c code l e
 
 drop-in : (cs : List ℕ) (c code : ℕ) (l : List ℕ) → drop c cs ≡ code ∷ l → c < length cs
-drop-in [] c code l e = absurd (drop-nil c code l e)
-drop-in (x ∷ cs) zero code l e = omega arith
-drop-in (x ∷ cs) (suc c) code l e = let h = drop-in cs c code l e in omega arith
+drop-in cs c code l e = omega (arith, length-drop c cs, ap length e)
 
 drop-last : (cs : List ℕ) (c code : ℕ) → drop c cs ≡ code ∷ [] → afterOf (length cs) (suc c) ≡ 0
 unfolding afterOf

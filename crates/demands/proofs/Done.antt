@@ -1,8 +1,8 @@
 -- The run does every leg that the levels force: after its states the leg is over. Assumes nothing.
-use Prim.Native.Nat.{ℕ, zero, suc, _+_, _-_, _<_}
+use Prim.Native.Nat.{ℕ, zero, suc, _+_, _<_}
 use mathlib.Core.Path.{_≡_, refl, sym, ap, _∙_, subst}
-use mathlib.Core.Bool.{true, false, true≢false}
-use mathlib.Core.Logic.{_⊎_, ⊎-elim}
+use mathlib.Core.Bool.{true, true≢false}
+use mathlib.Core.Logic.{⊎-elim}
 use native.Mathlib.Omega.{arith}
 use Rattle.opcodes.specs.Condition.{metOf}
 use Rattle.opcodes.specs.Cycles.{definedOf}
@@ -19,8 +19,7 @@ use Rattle.demands.proofs.Steps.{step, run}
 use Rattle.demands.proofs.Courses.{course-total}
 use Rattle.demands.proofs.Going.{Going}
 use Rattle.demands.proofs.Openings.{fetch-halt, Start, fetching, answering, halting, opcode-none, opcode-ack}
-use Rattle.demands.proofs.Openings.{restart-defined}
-use Rattle.demands.proofs.Openings.{restart-total}
+use Rattle.demands.proofs.Restarts.{restart-defined, restart-total}
 use Rattle.demands.proofs.Journeys.{Now, going, resting, held, Ran, Stopped, now-begin, now-step}
 use Rattle.demands.proofs.Runs.{now-awake, run-on}
 use Rattle.demands.proofs.Once.{leg-one}

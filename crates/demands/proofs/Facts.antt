@@ -3,7 +3,7 @@
 use Prim.Native.Nat.{ℕ, suc, _+_, _≤_}
 use mathlib.Core.Path.{_≡_, refl, sym, ap, _∙_, subst}
 use mathlib.Core.Bool.{Bool, true}
-use mathlib.Core.Logic.{_⊎_, inl, inr, ⊎-elim}
+use mathlib.Core.Logic.{inl, inr, ⊎-elim}
 use native.Mathlib.Omega.{arith}
 use lib.Dec.{eqb}
 use Rattle.laws.proofs.Tests.{pick-both}
@@ -18,16 +18,17 @@ use Rattle.demands.specs.Outside.{Outside, Moment, didTimes}
 use Rattle.demands.proofs.Work.{Work, useCycle, opcodeOf, workOf}
 use Rattle.demands.specs.Board.{Board, momentOf}
 use Rattle.demands.specs.Bound.{Neither, underWay}
+use Rattle.demands.proofs.Opcode.{use-opcode, use-inte}
 use Rattle.demands.proofs.Stretches.{pass-add}
 use Rattle.demands.proofs.Steps.{size, next, ended}
 use Rattle.demands.proofs.Courses.{later-size, course-bound}
 use Rattle.demands.proofs.Phases.{Early, Late, second, waiting, third, fourth, fifth, holding}
 use Rattle.demands.proofs.Fetches.{fetch-opcode}
 use Rattle.demands.proofs.Inte.{effect-inte}
-use Rattle.demands.proofs.Going.{Going, begin, reading, read, first, early, late, use-opcode, use-inte}
+use Rattle.demands.proofs.Going.{Going, begin, reading, read, first, early, late}
 use Rattle.demands.proofs.Onward.{first-size}
 use Rattle.demands.proofs.Openings.{fetch-halt, Start, fetching, answering, halting, fetch-code, opcode-none, opcode-ack}
-use Rattle.demands.proofs.Openings.{restart-neither}
+use Rattle.demands.proofs.Restarts.{restart-neither}
 use Rattle.demands.proofs.Journeys.{Now, going, resting, held}
 use Rattle.demands.proofs.Results.{under-fetch}
 

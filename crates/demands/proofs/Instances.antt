@@ -1,14 +1,14 @@
--- The theorems of demands 2 and 3 at runs of a cold machine: NOP with READY down in states 1 and 2, which takes 6 states, 2 of
--- them waits; and an undefined opcode. So what they ask can be met. Assumes nothing.
+-- The theorems of demands 2 and 3 at a run of a cold machine: NOP with READY down in states 1 and 2, which takes 6 states, 2 of
+-- them waits. So what they ask can be met. Assumes nothing.
 use Prim.Native.Nat.{ℕ, zero, suc, _+_, _<_}
 use mathlib.Core.Path.{_≡_, refl, sym, ap, _∙_, subst}
 use mathlib.Core.Bool.{true, false}
 use mathlib.Core.List.{List, [], _∷_}
 use native.Mathlib.Omega.{arith}
-use lib.ListN.{length, replicate}
+use lib.ListN.{replicate}
 use Rattle.machine.specs.Record.{coldOf}
 use Rattle.run.specs.declared.answer.Verdict.the-variants.{Good}
-use Rattle.run.specs.declared.answer.Answer.the-variants.{Done, Stopped}
+use Rattle.run.specs.declared.answer.Answer.the-variants.{Done}
 use Rattle.run.specs.Run.{World, stoppedOf, runOf}
 use Rattle.run.specs.Check.{checkOf}
 use Rattle.run.specs.Outcome.{verdictOf, leftOf, ranIn, answeredOf, answerOf}
@@ -23,23 +23,18 @@ use Rattle.demands.specs.Board.{Board, boardOf, momentOf}
 use Rattle.demands.specs.Course.{courseOf}
 use Rattle.demands.specs.Legs.{tally, afterwards, opcodeAt, manualAt, courseAt, instruction, Trip, stay, go}
 use Rattle.demands.specs.Calls.{worldOn, givenBack, last, amid}
+use Rattle.demands.specs.Cards.{ports}
 use Rattle.demands.specs.Costs.{Costs}
 use Rattle.demands.proofs.Open.{everything}
-use Rattle.demands.proofs.Cards.{zeros}
+use Rattle.demands.proofs.Cards.{zeros, lengths-good}
 use Rattle.demands.specs.Trace.{rowIn, shownBy}
-use Rattle.demands.specs.Stopping as stopping
-use Rattle.demands.specs.Stopping.{StopsAt}
 use Rattle.demands.specs.Demand2.{Executed}
 use Rattle.demands.proofs.Demands.{instructions-done, forced-done, instruction-ends, states-forced}
 use Rattle.demands.proofs.Tracing.{trace-shows}
-use Rattle.demands.proofs.Stopping.{stop-forced}
 
 -- a cold machine over zeros, which are NOPs
 abbrev still : Board
-still = record { machine = coldOf; memory = replicate 65536 0; outputs = replicate 256 0 }
-
-abbrev ports : List ℕ
-ports = replicate 256 0
+still = record { machine = coldOf; memory = replicate 65536 0; outputs = ports }
 
 -- READY down in state 1, up in state 3
 abbrev dip : List ℕ
@@ -53,8 +48,7 @@ unfolding everything
 fair = refl
 
 passes : verdictOf world ports dip 6 ≡ Good
-unfolding verdictOf
-passes = (λ i. checkOf coldOf (zeros 65536 i) (zeros 256 i) (zeros 256 i) dip (zeros 48 i) 6) ∙ fair
+passes = lengths-good coldOf (still .memory) dip 48 6 (zeros 65536) fair
 
 awake : stoppedOf (runOf dip ports 6 world .machine .next) ≡ false
 unfolding everything
@@ -119,7 +113,9 @@ nop-executed = instruction-ends dip ports still 2 0 refl refl refl forced (omega
 
 pub nop-amid : Costs E still 6 (boardOf (runOf dip ports 6 world))
 unfolding everything
-nop-amid = instructions-done dip ports still (boardOf (runOf dip ports 6 world)) 6 (amid (replicate 48 0) 6 6 passes (omega arith)) (refl, refl) refl
+nop-amid =
+    instructions-done dip ports still (boardOf (runOf dip ports 6 world)) 6 (amid (replicate 48 0) 6 6 passes (omega arith))
+    (refl, refl) refl
 
 -- and the trace's third row shows a wait
 third-row : rowIn (leftOf world ports dip 6 .trace) 2 ≡ shownBy dip ports (runOf dip ports 2 world)
@@ -131,36 +127,3 @@ third-row =
 pub wait-shown : rowIn (leftOf world ports dip 6 .trace) 2 .state ≡ 6
 unfolding everything shownBy
 wait-shown = ap (λ (r : Row). r .state) third-row
-
--- an undefined opcode at address 0 stops the machine in the third of five states asked
-abbrev eight : Board
-eight = record { machine = coldOf; memory = 0x08 ∷ replicate 65535 0; outputs = replicate 256 0 }
-
-abbrev five : World
-five = worldOn eight (replicate 40 0)
-
-five-fair : checkOf coldOf 65536 256 256 [] 40 5 ≡ Good
-unfolding everything
-five-fair = refl
-
-five-pass : verdictOf five ports [] 5 ≡ Good
-unfolding verdictOf
-five-pass =
-    let size : length (eight .memory) ≡ 65536 = ap suc (zeros 65535) in
-    (λ i. checkOf coldOf (size i) (zeros 256 i) (zeros 256 i) [] (zeros 40 i) 5) ∙ five-fair
-
-five-stops : stoppedOf (runOf [] ports 5 five .machine .next) ≡ true
-unfolding everything
-five-stops = refl
-
-five-answers : answerOf five ports [] 5 ≡ Stopped (ranIn (runOf [] ports 5 five))
-unfolding answeredOf
-five-answers = good-answer five ports [] 5 five-pass ∙ rw five-stops
-
-abbrev stuck : Board
-stuck = givenBack five ports [] 5 (ranIn (runOf [] ports 5 five))
-
-pub three-states : StopsAt (outsideOf [] ports coldOf) eight 3 stuck
-unfolding everything
-three-states =
-    stop-forced [] ports eight stuck 3 (stopping.last (replicate 40 0) 5 (ranIn (runOf [] ports 5 five)) five-answers) (refl, refl)

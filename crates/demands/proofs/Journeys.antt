@@ -9,28 +9,30 @@ use Rattle.opcodes.specs.Condition.{metOf}
 use Rattle.opcodes.specs.Cycles.{definedOf}
 use Rattle.opcodes.specs.declared.cycle.Acknowledge.the-variants.{None}
 use Rattle.effect.specs.Kept.{keptFor}
+use Rattle.machine.specs.declared.record.Position.{Position}
 use Rattle.machine.specs.declared.record.Position.the-variants.{Fetch, Hold, Halt}
 use Rattle.demands.specs.Begins.{Acknowledges}
 use Rattle.demands.specs.Outside.{Outside, didTimes, up}
-use Rattle.demands.proofs.Work.{opcodeOf, here, workOf}
-use Rattle.demands.specs.Rows.{Through, Unbroken}
+use Rattle.demands.proofs.Work.{opcodeOf, resultOf, here, workOf}
+use Rattle.demands.specs.Rows.{Through, Unbroken, Forced}
 use Rattle.demands.specs.Board.{Board, momentOf}
 use Rattle.demands.specs.Own.{own}
 use Rattle.demands.specs.Bound.{Neither, underWay}
 use Rattle.demands.specs.Manual.{Result}
 use Rattle.demands.specs.States.{restartStates}
 use Rattle.demands.specs.Legs.{Tally, tally, statesIn, afterwards, opcodeAt, manualAt, statesAt, restartByte, restartAt}
-use Rattle.demands.specs.Legs.{Leg, instruction, acknowledge, halt}
-use Rattle.demands.proofs.Stretches.{bool, clock-pass, through-more, through-none, row-end}
-use Rattle.demands.proofs.Steps.{step, hold-on}
+use Rattle.demands.specs.Legs.{courseAt, Leg, instruction, acknowledge, halt}
+use Rattle.demands.proofs.Stretches.{clock-pass, through-none, row-next}
+use Rattle.demands.proofs.Steps.{step}
+use Rattle.demands.proofs.Lasts.{hold-on}
 use Rattle.demands.proofs.Courses.{course-bound}
 use Rattle.demands.proofs.Going.{Going, begin, Finished, Stops}
 use Rattle.demands.proofs.Onward.{going-step}
 use Rattle.demands.proofs.Openings.{fetch-halt, Start, fetching, answering, halting, fetch-code, opcode-none, opcode-ack}
-use Rattle.demands.proofs.Openings.{restart-defined, restart-total, restart-neither, after-takes, after-start}
-use Rattle.demands.proofs.Openings.{halted, kept-all, halt-on, halt-off, halt-held}
+use Rattle.demands.proofs.Restarts.{restart-defined, restart-total, restart-neither}
+use Rattle.demands.proofs.Halts.{halted, kept-all, halt-on, halt-off, halt-held}
 use Rattle.demands.proofs.Results.{totalAt, over-as, manual-states, manual-done, restart-done, start-done, under-fetch}
-use Rattle.demands.proofs.Results.{finish-takes}
+use Rattle.demands.proofs.Results.{takes-done, finish-takes}
 
 module _ (E : Outside) (b₀ : Board) where
   -- inside a leg that began on the board b₀
@@ -58,48 +60,44 @@ module _ (E : Outside) (b₀ : Board) where
     pub kept : b₀ .machine .kept ≡ keptFor None 0
     pub stops : Stops E (workOf b₀) (momentOf b₀) b i o
 
-  pub now-begin : Start b₀ → Now b₀ 0 0
-  now-begin (fetching e k) =
-      subst (λ (z : Board). Now z 0 0) (ap (λ p. here (workOf b₀) p (momentOf b₀)) (sym e)) (going (fetching e k) e begin)
-  now-begin (answering a n z l f e k) =
-      subst (λ (z : Board). Now z 0 0) (ap (λ p. here (workOf b₀) p (momentOf b₀)) (sym e)) (going (answering a n z l f e k) e begin)
-  now-begin (halting e) = subst (λ (z : Board). Now z 0 0) (ap (λ p. here (workOf b₀) p (momentOf b₀)) (sym e)) (resting e)
+  at-next : (p : Position) → b₀ .machine .next ≡ p → Now (here (workOf b₀) p (momentOf b₀)) 0 0 → Now b₀ 0 0
+  at-next p e = subst (λ (z : Board). Now z 0 0) (ap (λ q. here (workOf b₀) q (momentOf b₀)) (sym e))
 
-  leg-over : {b : Board} {i o : ℕ} → Start b₀ → b₀ .machine .next ≡ Fetch → Finished E (workOf b₀) (momentOf b₀) b i o → Ran b i o
-  leg-over {b} {i} {o} (fetching e k) e' f =
-      let q = opcode-none E b₀ k in
-      let d : definedOf (opcodeAt b₀) ≡ true = ap definedOf (sym q) ∙ f .defined in
-      let (w, h, forced, n, owned, board) = over-as E b₀ (opcodeAt b₀) q f in
-      let t = manual-states E b₀ in
-      let board' : b ≡ afterwards (opcodeAt b₀) (manualAt E b₀) (didTimes E (statesAt b₀ + w + h) (momentOf b₀)) =
-      board
-      ∙ ap₂ (λ (x : Result) (y : ℕ). afterwards (opcodeAt b₀) x (didTimes E (y + w + h) (momentOf b₀))) (manual-done E b₀ k d) t in
+  pub now-begin : Start b₀ → Now b₀ 0 0
+  now-begin (fetching e k) = at-next Fetch e (going (fetching e k) e begin)
+  now-begin (answering a n z l f e k) = at-next Fetch e (going (answering a n z l f e k) e begin)
+  now-begin (halting e) = at-next Halt e (resting e)
+
+  -- an instruction or an acknowledge with the opcode op is over: it has n states, and its result is a
+  leg-with : (op n : ℕ) (a : Result) {b : Board} {i o : ℕ} → opcodeOf E (workOf b₀) ≡ op → totalAt E b₀ op ≡ n
+      → resultOf E (courseAt b₀ op) (workOf b₀) ≡ a
+      → ((w h : ℕ) → Forced E (courseAt b₀ op) (b₀ .machine .clock) w h
+      → Leg E b₀ (tally n w h 0) (afterwards op a (didTimes E (n + w + h) (momentOf b₀))))
+      → (Neither (underWay b₀) → Neither op) → Finished E (workOf b₀) (momentOf b₀) b i o → Ran b i o
+  leg-with op n a {b} {i} {o} q t r l m f =
+      let (w, h, forced, c, owned, board) = over-as E b₀ op q f in
+      let board' : b ≡ afterwards op a (didTimes E (n + w + h) (momentOf b₀)) =
+      board ∙ ap₂ (λ (x : Result) (y : ℕ). afterwards op x (didTimes E (y + w + h) (momentOf b₀))) r t in
       record {
-        tallied = tally (statesAt b₀) w h 0;
-        leg = subst (Leg E b₀ _) (sym board') (instruction w h e k d forced);
+        tallied = tally n w h 0;
+        leg = subst (Leg E b₀ _) (sym board') (l w h forced);
         count = omega arith;
         owned = omega arith;
         few = omega (arith, f .owned, course-bound (opcodeOf E (workOf b₀)) (b₀ .machine .regs .f) (f .defined));
-        start = start-done E b₀ (opcodeAt b₀) (statesAt b₀ + w + h) (manualAt E b₀) board';
-        takes = λ z. finish-takes E b₀ f (subst Neither (under-fetch E b₀ e k ∙ sym q) z);
+        start = start-done E b₀ op (n + w + h) a board';
+        takes = λ z. finish-takes E b₀ f (subst Neither (sym q) (m z));
       }
-  leg-over {b} {i} {o} (answering a m z l off e k) e' f =
-      let q = opcode-ack E b₀ a m z l k in
-      let (w, h, forced, n, owned, board) = over-as E b₀ (restartByte m) q f in
-      let t : totalAt E b₀ (restartByte m) ≡ restartStates = restart-total m l (metOf (restartByte m) (b₀ .machine .regs .f)) in
-      let board' : b ≡ afterwards (restartByte m) (restartAt E b₀ m) (didTimes E (restartStates + w + h) (momentOf b₀)) =
-      board
-      ∙ ap₂ (λ (x : Result) (y : ℕ). afterwards (restartByte m) x (didTimes E (y + w + h) (momentOf b₀)))
-      (restart-done E b₀ a m z l off k) t in
-      record {
-        tallied = tally restartStates w h 0;
-        leg = subst (Leg E b₀ _) (sym board') (acknowledge a m w h z l off e k forced);
-        count = omega arith;
-        owned = omega arith;
-        few = omega arith;
-        start = start-done E b₀ (restartByte m) (restartStates + w + h) (restartAt E b₀ m) board';
-        takes = λ y. finish-takes E b₀ f (subst Neither (sym q) (restart-neither m l));
-      }
+
+  leg-over : {b : Board} {i o : ℕ} → Start b₀ → b₀ .machine .next ≡ Fetch → Finished E (workOf b₀) (momentOf b₀) b i o → Ran b i o
+  leg-over (fetching e k) e' f =
+      let q = opcode-none E b₀ k in
+      let d : definedOf (opcodeAt b₀) ≡ true = ap definedOf (sym q) ∙ f .defined in
+      leg-with (opcodeAt b₀) (statesAt b₀) (manualAt E b₀) q (manual-states E b₀) (manual-done E b₀ k d)
+      (λ w h c. instruction w h e k d c) (subst Neither (under-fetch E b₀ e k)) f
+  leg-over (answering a m z l off e k) e' f =
+      leg-with (restartByte m) restartStates (restartAt E b₀ m) (opcode-ack E b₀ a m z l k)
+      (restart-total m l (metOf (restartByte m) (b₀ .machine .regs .f))) (restart-done E b₀ a m z l off k)
+      (λ w h c. acknowledge a m w h z l off e k c) (λ y. restart-neither m l) f
   leg-over (halting e) e' f = fetch-halt b₀ e' e
 
   abbrev pub Then : Board → ℕ → ℕ → Type 0
@@ -112,24 +110,30 @@ module _ (E : Outside) (b₀ : Board) where
   stop-over (halting e) e' f = fetch-halt b₀ e' e
 
   -- the end of a halt state and its holds
-  halt-over : (b : Board) (h i o : ℕ) → b₀ .machine .next ≡ Halt → Unbroken (up E) (b₀ .machine .clock) h → i ≡ suc h → o ≡ 1
-      → b ≡ afterwards 0x76 (kept-all (workOf b₀)) (didTimes E i (momentOf b₀)) → Ran b i o
-  halt-over b h i o e r n q p =
-      let n' : i ≡ 1 + h = omega arith in
+  halt-over : (b : Board) (h i : ℕ) → b₀ .machine .next ≡ Halt → Unbroken (up E) (b₀ .machine .clock) h → i ≡ 1 + h
+      → b ≡ afterwards 0x76 (kept-all (workOf b₀)) (didTimes E i (momentOf b₀)) → Ran b i 1
+  halt-over b h i e r n p =
       let board : b ≡ afterwards 0x76 (kept-all (workOf b₀)) (didTimes E (1 + h) (momentOf b₀)) =
-      p ∙ ap (λ x. afterwards 0x76 (kept-all (workOf b₀)) (didTimes E x (momentOf b₀))) n' in
+      p ∙ ap (λ x. afterwards 0x76 (kept-all (workOf b₀)) (didTimes E x (momentOf b₀))) n in
       record {
         tallied = tally 0 0 h 1;
         leg = subst (Leg E b₀ _) (sym board) (halt h e r);
         count = omega arith;
-        owned = q;
+        owned = refl;
         few = omega arith;
-        start = subst Start (sym board) (after-start 0x76 _ (didTimes E (1 + h) (momentOf b₀)));
-        takes =
-            λ z t u.
-            subst (λ (x : Board). Acknowledges (x .machine)) (sym p)
-            (after-takes 0x76 (kept-all (workOf b₀)) (didTimes E i (momentOf b₀)) refl t u);
+        start = start-done E b₀ 0x76 (1 + h) (kept-all (workOf b₀)) board;
+        takes = λ z. takes-done E b₀ 0x76 i (kept-all (workOf b₀)) p refl;
       }
+
+  -- a halt state, or a hold after it
+  halt-step : (b : Board) (j i : ℕ) → b₀ .machine .next ≡ Halt → i ≡ j → Through (up E) (b₀ .machine .clock) j
+      → (up E (didTimes E i (momentOf b₀) .clock) ≡ true → b ≡ here (halted (workOf b₀)) (Hold 2) (didTimes E (suc i) (momentOf b₀)))
+      → (up E (didTimes E i (momentOf b₀) .clock) ≡ false
+      → b ≡ afterwards 0x76 (kept-all (workOf b₀)) (didTimes E (suc i) (momentOf b₀))) → Then b (suc i) 1
+  halt-step b j i e n t on off =
+      row-next (up E) (b₀ .machine .clock) j (didTimes E i (momentOf b₀) .clock) t (clock-pass E i (momentOf b₀) ∙ omega arith)
+      (λ h r. inl (subst (λ (z : Board). Now z (suc i) 1) (sym (on h)) (held j (suc i) e (omega arith) r)))
+      (λ h r. inr (inl (halt-over b j (suc i) e r (omega arith) (off h))))
 
   -- one state more
   pub now-step : {b : Board} {i o : ℕ} → Now b i o → Then (step E b) (suc i) (own (b .machine .next) + o)
@@ -137,28 +141,7 @@ module _ (E : Outside) (b₀ : Board) where
       ⊎-elim (λ x. inl (going s e x)) (⊎-elim (λ x. inr (inl (leg-over s e x))) (λ x. inr (inr (stop-over s e x))))
       (going-step E (workOf b₀) (momentOf b₀) (fetch-code b₀ s e) g)
   now-step (resting e) =
-      let t : ℕ = b₀ .machine .clock in
-      ⊎-elim
-      (λ (h : up E t ≡ true).
-      inl
-      (subst (λ (z : Board). Now z 1 1) (sym (halt-on E (workOf b₀) (momentOf b₀) h))
-      (held 0 1 e refl (through-more (up E) t 0 t (through-none (up E) t) (omega arith) h))))
-      (λ (h : up E t ≡ false).
-      inr
-      (inl
-      (halt-over _ 0 1 1 e (row-end (up E) t 0 t (through-none (up E) t) (omega arith) h) refl refl
-      (halt-off E (workOf b₀) (momentOf b₀) h))))
-      (bool (up E t))
+      halt-step _ 0 0 e refl (through-none (up E) _) (halt-on E (workOf b₀) (momentOf b₀)) (halt-off E (workOf b₀) (momentOf b₀))
   now-step (held j i e n t) =
-      let at : didTimes E i (momentOf b₀) .clock ≡ b₀ .machine .clock + suc j = clock-pass E i (momentOf b₀) ∙ omega arith in
-      ⊎-elim
-      (λ (h : up E (didTimes E i (momentOf b₀) .clock) ≡ true).
-      inl
-      (subst (λ (z : Board). Now z (suc i) 1) (sym (hold-on E (halted (workOf b₀)) 1 (didTimes E i (momentOf b₀)) h))
-      (held (suc j) (suc i) e (omega arith) (through-more (up E) _ (suc j) _ t at h))))
-      (λ (h : up E (didTimes E i (momentOf b₀) .clock) ≡ false).
-      inr
-      (inl
-      (halt-over _ (suc j) (suc i) 1 e (row-end (up E) _ (suc j) _ t at h) (omega arith) refl
-      (halt-held E (workOf b₀) (didTimes E i (momentOf b₀)) h))))
-      (bool (up E (didTimes E i (momentOf b₀) .clock)))
+      halt-step _ (suc j) i e n t (hold-on E (halted (workOf b₀)) 1 (didTimes E i (momentOf b₀)))
+      (halt-held E (workOf b₀) (didTimes E i (momentOf b₀)))

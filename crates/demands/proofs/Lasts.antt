@@ -2,7 +2,7 @@
 use Prim.Native.Nat.{ℕ, suc, _+_}
 use mathlib.Core.Path.{_≡_, refl, ap, _∙_}
 use mathlib.Core.Bool.{Bool, true, false}
-use lib.Dec.{eqb}
+use lib.Dec.{eqb, eqb·suc-suc, eqb·suc-zero}
 use lib.ListN.{length}
 use Rattle.laws.specs.Choice.{pick}
 use Rattle.opcodes.specs.Condition.{metOf}
@@ -23,7 +23,25 @@ use Rattle.machine.specs.Cycle.{afterOf, cyclesOf}
 use Rattle.machine.specs.Ending.{takesOf, acknowledgeOf, clearOf, endedOf, followOf, holdOf, endOf}
 use Rattle.demands.specs.Outside.{Outside, Moment, did, up}
 use Rattle.demands.proofs.Work.{Work, took, fetched, here}
-use Rattle.demands.proofs.Steps.{step, size, next, ended, with, Ending, Done, opening, two, end-clock, hold-off}
+use Rattle.demands.proofs.Steps.{driven, step, size, next, ended, with, Ending, Done, opening, follow-clock, end-clock}
+
+-- a later cycle is not the first
+two : (c : ℕ) → eqb (suc (suc c)) 1 ≡ false
+two c = eqb·suc-suc (suc c) 0 ∙ eqb·suc-zero c
+
+-- a hold, with HOLD up and down
+module _ (E : Outside) (d : Work) (c : ℕ) (t : Moment) where
+  pub hold-on : up E (t .clock) ≡ true → step E (here d (Hold (suc c)) t) ≡ here d (Hold (suc c)) (did E t)
+  unfolding opening holdOf
+  hold-on h = rw h
+
+  pub hold-off : up E (t .clock) ≡ false
+      → step E (here d (Hold (suc c)) t)
+      ≡ with d (followOf (next c (d .kept .opcode) (d .regs)) (here d (Hold (suc c)) (did E t) .machine))
+  unfolding opening holdOf
+  hold-off h =
+      rw h
+      (ap (with d) (follow-clock (t .clock + 1) (next c (d .kept .opcode) (d .regs)) (driven E (here d (Hold (suc c)) t .machine))))
 
 -- an instruction has as many cycles under the flags that it leaves
 after-count : (i : Instruction) (f g : ℕ) (met : ℕ → Bool) → After i f g

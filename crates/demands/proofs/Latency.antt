@@ -2,7 +2,7 @@
 use Prim.Native.Nat.{ℕ, zero, suc, _+_, _≤_, _<_}
 use mathlib.Core.Path.{_≡_, refl, sym, ap, ap₂, _∙_, subst}
 use mathlib.Core.Bool.{true, false, false≢true}
-use mathlib.Core.Logic.{_⊎_, ⊎-elim}
+use mathlib.Core.Logic.{⊎-elim}
 use native.Mathlib.Omega.{arith}
 use Rattle.machine.specs.declared.record.Position.{Position}
 use Rattle.machine.specs.declared.record.Position.the-variants.{Fetch, Later, Wait, Hold, Halt, Stop}

@@ -19,17 +19,21 @@ pub mod Tested
 pub mod Saving
 pub mod Demand1
 pub mod Steps
+pub mod Firsts
 pub mod Lasts
 pub mod Stretches
 pub mod Phases
 pub mod Courses
 pub mod Fetches
 pub mod Going
+pub mod Settling
 pub mod Overs
 pub mod Onward
 pub mod Lines
 pub mod Bridge
 pub mod Openings
+pub mod Restarts
+pub mod Halts
 pub mod Results
 pub mod Journeys
 pub mod Runs
@@ -51,3 +55,4 @@ pub mod Tracing
 pub mod Undefined
 pub mod Stopping
 pub mod Instances
+pub mod StopInstance

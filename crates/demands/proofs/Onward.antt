@@ -1,12 +1,11 @@
 -- One state more of an instruction goes on with it, ends it or stops the machine. Here cycles count from 0. Assumes nothing.
-use Prim.Native.Nat.{ℕ, suc, _+_, _-_}
+use Prim.Native.Nat.{ℕ, suc, _+_}
 use mathlib.Core.Path.{_≡_, refl, sym, ap, _∙_, subst}
 use mathlib.Core.Bool.{true, false}
 use mathlib.Core.List.{List, [], _∷_}
 use mathlib.Core.Logic.{_⊎_, inl, inr, ⊎-elim}
 use native.Mathlib.Omega.{arith}
 use lib.Dec.{eqb, T}
-use Rattle.laws.proofs.Tests.{true→T}
 use Rattle.opcodes.specs.Codes.{fetch4}
 use Rattle.opcodes.specs.Cycles.{codeOf, definedOf}
 use Rattle.opcodes.specs.Kinds.{statesOf, waitsOf, kindOf}
@@ -16,26 +15,19 @@ use Rattle.demands.specs.Outside.{Outside, Moment, did, didTimes}
 use Rattle.demands.proofs.Work.{Work, risen, useCycle}
 use Rattle.demands.specs.Board.{Board}
 use Rattle.demands.specs.Own.{own}
+use Rattle.demands.proofs.Opcode.{use-opcode}
 use Rattle.demands.proofs.Stretches.{bool}
-use Rattle.demands.proofs.Steps.{step, size, next, Ending, fetch-first, later-first}
+use Rattle.demands.proofs.Steps.{step, size, next, Ending}
+use Rattle.demands.proofs.Firsts.{fetch-first, later-first}
 use Rattle.demands.proofs.Lasts.{third-end, third-on, third-fetch, third-stop}
-use Rattle.demands.proofs.Courses.{code-at, shape-parts, later-size, course-shape}
+use Rattle.demands.proofs.Courses.{shape-parts, later-size, course-shape}
 use Rattle.demands.proofs.Phases.{Early, Third, early-step, Late, Over, Onward, last-step, late-step, second, fourth}
 use Rattle.demands.proofs.Fetches.{fetch-opcode}
-use Rattle.demands.proofs.Going.{op, cs, Sofar, Going, begin, reading, read, first, early, late, Next, use-opcode}
-use Rattle.demands.proofs.Going.{settle}
-use Rattle.demands.proofs.Overs.{over-first, code-is, size-is, over-later}
+use Rattle.demands.proofs.Going.{op, cs, afterFetch, Sofar, Going, begin, reading, read, first, early, late, Next}
+use Rattle.demands.proofs.Settling.{settle}
+use Rattle.demands.proofs.Overs.{first-states, over-first, code-is, size-is, over-later}
 
 module _ (E : Outside) (d₀ : Work) (t₀ : Moment) (e₀ : codeOf (d₀ .kept .opcode) 1 ≡ fetch4) where
-  abbrev op₀ : ℕ
-  op₀ = op E d₀ t₀
-
-  abbrev cs₀ : List ℕ
-  cs₀ = cs E d₀ t₀
-
-  abbrev u₀ : Work
-  u₀ = useCycle E fetch4 0 d₀
-
   module _ (c : ℕ) (d : Work) (t : Moment) (i₀ o₀ x y : ℕ) (l : List ℕ) (s : Sofar E d₀ t₀ c d t i₀ o₀ x (y ∷ l)) where
     -- a state from T3 on
     onward : {b : Board} (i₁ o₁ i o : ℕ) → i ≡ i₀ + i₁ → o ≡ o₀ + o₁
@@ -80,14 +72,14 @@ module _ (E : Outside) (d₀ : Work) (t₀ : Moment) (e₀ : codeOf (d₀ .kept 
         (later-size y l (s .later))
 
   -- the first cycle has four or five states
-  sized : (cs : List ℕ) → definedOf op₀ ≡ true → cs₀ ≡ cs → T (shape cs) → (size 0 op₀ ≡ 4) ⊎ (size 0 op₀ ≡ 5)
+  sized : (l : List ℕ) → definedOf (op E d₀) ≡ true → cs E d₀ ≡ l → T (shape l) → (size 0 (op E d₀) ≡ 4) ⊎ (size 0 (op E d₀) ≡ 5)
   sized [] d e s = absurd s
   sized (x ∷ l) d e s =
-      let n : size 0 op₀ ≡ statesOf x = ap statesOf (code-at op₀ (true→T (definedOf op₀) d) (d₀ .regs .f) 0 x l e) in
+      let n = sym (first-states E d₀ x l d e) in
       ⊎-elim (λ q. inl (n ∙ q)) (λ q. inr (n ∙ q)) (shape-parts x l s .first)
 
-  pub first-size : definedOf op₀ ≡ true → (size 0 op₀ ≡ 4) ⊎ (size 0 op₀ ≡ 5)
-  first-size d = sized cs₀ d refl (course-shape op₀ (d₀ .regs .f) d)
+  pub first-size : definedOf (op E d₀) ≡ true → (size 0 (op E d₀) ≡ 4) ⊎ (size 0 (op E d₀) ≡ 5)
+  first-size d = sized (cs E d₀) d refl (course-shape (op E d₀) (d₀ .regs .f) d)
 
   -- T3 of the fetch
   third-first : {b : Board} (i o : ℕ) → Third E d₀ 0 fetch4 t₀ b i o → Next E d₀ t₀ (step E b) (suc i) (own (b .machine .next) + o)
@@ -95,15 +87,15 @@ module _ (E : Outside) (d₀ : Work) (t₀ : Moment) (e₀ : codeOf (d₀ .kept 
   third-first {b} i o v =
       let is : own (b .machine .next) ≡ 1 = ap (λ (z : Board). own (z .machine .next)) (v .board) in
       ⊎-elim
-      (λ (d : definedOf op₀ ≡ true).
+      (λ (d : definedOf (op E d₀) ≡ true).
       inl
       (read d
-      (subst (λ (z : ℕ). Late E u₀ 0 fetch4 (size 0 op₀) t₀ (step E b) (suc i) z)
+      (subst (λ (z : ℕ). Late E (afterFetch E d₀) 0 fetch4 (size 0 (op E d₀)) t₀ (step E b) (suc i) z)
       (let z : 3 ≡ own (b .machine .next) + o = omega (arith, v .owned) in z)
-      (subst (λ (z : Board). Late E u₀ 0 fetch4 (size 0 op₀) t₀ z (suc i) 3)
+      (subst (λ (z : Board). Late E (afterFetch E d₀) 0 fetch4 (size 0 (op E d₀)) t₀ z (suc i) 3)
       (sym (ap (step E) (v .board) ∙ third-fetch E (risen fetch4 d₀) 0 (didTimes E i t₀) e₀ d))
       (fourth (v .W) (suc i) (omega (arith, v .count)) (v .waits) (first-size d))))))
-      (λ (d : definedOf op₀ ≡ false).
+      (λ (d : definedOf (op E d₀) ≡ false).
       inr
       (inr
       (record {
@@ -114,14 +106,15 @@ module _ (E : Outside) (d₀ : Work) (t₀ : Moment) (e₀ : codeOf (d₀ .kept 
         owned = omega (arith, v .owned);
         board = ap (step E) (v .board) ∙ third-stop E (risen fetch4 d₀) 0 (didTimes E i t₀) e₀ d;
       })))
-      (bool (definedOf op₀))
+      (bool (definedOf (op E d₀)))
 
   -- the end of the first cycle
-  ends-first : (cs : List ℕ) → definedOf op₀ ≡ true → cs₀ ≡ cs → T (shape cs) → {b : Board} {i o : ℕ}
-      → Over E u₀ 0 fetch4 (size 0 op₀) t₀ b i o → Next E d₀ t₀ (step E b) (suc i) (own (b .machine .next) + o)
+  ends-first : (l : List ℕ) → definedOf (op E d₀) ≡ true → cs E d₀ ≡ l → T (shape l) → {b : Board} {i o : ℕ}
+      → Over E (afterFetch E d₀) 0 fetch4 (size 0 (op E d₀)) t₀ b i o → Next E d₀ t₀ (step E b) (suc i) (own (b .machine .next) + o)
   ends-first [] d e s v = absurd s
   ends-first (x ∷ l) d e s {b} {i} {o} v =
-      settle E d₀ t₀ 0 u₀ (didTimes E (suc i) t₀) (suc i) (own (b .machine .next) + o) x l (over-first E d₀ t₀ x l d e v) (step E b) (v .board)
+      settle E d₀ t₀ 0 (afterFetch E d₀) (didTimes E (suc i) t₀) (suc i) (own (b .machine .next) + o) x l
+      (over-first E d₀ t₀ x l d e v) (step E b) (v .board)
 
   -- one state more
   pub going-step : {b : Board} {i o : ℕ} → Going E d₀ t₀ b i o → Next E d₀ t₀ (step E b) (suc i) (own (b .machine .next) + o)
@@ -130,8 +123,8 @@ module _ (E : Outside) (d₀ : Work) (t₀ : Moment) (e₀ : codeOf (d₀ .kept 
   going-step (reading {b} {i} {o} v) =
       ⊎-elim (λ q. inl (reading q)) (λ q. third-first i o q) (early-step E d₀ 0 fetch4 t₀ e₀ v)
   going-step (read d v) =
-      ⊎-elim (λ q. inl (read d q)) (λ q. ends-first cs₀ d refl (course-shape op₀ (d₀ .regs .f) d) q)
-      (late-step E u₀ 0 fetch4 (size 0 op₀) t₀ (ap (size 0) (fetch-opcode E d₀)) v)
+      ⊎-elim (λ q. inl (read d q)) (λ q. ends-first (cs E d₀) d refl (course-shape (op E d₀) (d₀ .regs .f) d) q)
+      (late-step E (afterFetch E d₀) 0 fetch4 (size 0 (op E d₀)) t₀ (ap (size 0) (fetch-opcode E d₀)) v)
   going-step (first c d t i o x y l s) =
       inl
       (early c d t i o x y l s 1 1 (suc i) (1 + o) (omega arith) (omega arith)

@@ -1,4 +1,4 @@
--- The cycles of an instruction keep the opcode that the first of them reads, and leave the flag byte. Assumes nothing.
+-- The cycles of an instruction keep the opcode that the first of them reads, and leave the flag byte and INTE. Assumes nothing.
 use Prim.Native.Nat.{ℕ, suc, _/_, _%_}
 use mathlib.Core.Path.{_≡_, refl, _∙_}
 use mathlib.Core.Bool.{Bool, true, false, _&&_}
@@ -24,7 +24,7 @@ use Rattle.demands.specs.Outside.{Outside}
 use Rattle.demands.proofs.Work.{Work, asking, risen, useCycle, uses}
 
 -- a byte read in a later cycle is not the opcode
-pub keep-later : (b : Bool) (c v : ℕ) (k : Kept) → pick b (keepOf (suc (suc c)) v k) k .opcode ≡ k .opcode
+keep-later : (b : Bool) (c v : ℕ) (k : Kept) → pick b (keepOf (suc (suc c)) v k) k .opcode ≡ k .opcode
 unfolding keepOf
 keep-later true c v k = rw (ne-eqb (suc (suc c)) 1 (λ e. let no : ⊥ = omega (arith, e) in no))
 keep-later false c v k = refl
@@ -39,16 +39,28 @@ pub back : (a : ℕ) → downOf (upOf a 1) 1 ≡ a % 65536
 back a = omega arith
 
 module _ (E : Outside) where
+  -- a later cycle does not change the opcode
+  pub use-opcode : (code c : ℕ) (d : Work) → useCycle E code (suc c) d .kept .opcode ≡ d .kept .opcode
+  use-opcode code c d =
+      keep-later (readsOf code) c (byteOn (asking code (risen code d .regs) (d .kept)) (d .memory) (E .inputs)) (d .kept)
+
+  -- no cycle changes the flags or INTE
+  pub use-flags : (code c : ℕ) (d : Work) → useCycle E code c d .regs .f ≡ d .regs .f
+  unfolding risenOf
+  use-flags code c d = refl
+
+  pub use-inte : (code c : ℕ) (d : Work) → useCycle E code c d .regs .inte ≡ d .regs .inte
+  unfolding risenOf
+  use-inte code c d = refl
+
+  -- so the cycles of a list
   later-opcode : (cs : List ℕ) (c : ℕ) (d : Work) → uses E (suc c) cs d .kept .opcode ≡ d .kept .opcode
   later-opcode [] c d = refl
-  later-opcode (code ∷ cs) c d =
-      later-opcode cs (suc c) (useCycle E code (suc c) d)
-      ∙ keep-later (readsOf code) c (byteOn (asking code (risen code d .regs) (d .kept)) (d .memory) (E .inputs)) (d .kept)
+  later-opcode (code ∷ cs) c d = later-opcode cs (suc c) (useCycle E code (suc c) d) ∙ use-opcode code c d
 
   pub same-flags : (cs : List ℕ) (c : ℕ) (d : Work) → uses E c cs d .regs .f ≡ d .regs .f
-  unfolding risenOf
   same-flags [] c d = refl
-  same-flags (code ∷ cs) c d = same-flags cs (suc c) (useCycle E code c d)
+  same-flags (code ∷ cs) c d = same-flags cs (suc c) (useCycle E code c d) ∙ use-flags code c d
 
   -- nothing is kept yet
   module _ (r : Registers) (memory outputs : List ℕ) where

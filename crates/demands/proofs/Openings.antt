@@ -1,43 +1,37 @@
--- Where a leg begins: what opcode it has, what an acknowledge and a halt state do, and that a leg begins where one ends.
--- Assumes nothing.
-use Prim.Native.Nat.{ℕ, _+_, _*_, _%_, _<_}
+-- Where a leg begins: what opcode it has, and that a leg begins where one ends. Assumes nothing.
+use Prim.Native.Nat.{ℕ, _%_, _<_}
 use mathlib.Core.Path.{_≡_, refl, ap, _∙_}
-use mathlib.Core.Bool.{Bool, true, false, _&&_}
+use mathlib.Core.Bool.{Bool, true, false}
 use mathlib.Core.List.{List}
 use native.Mathlib.Omega.{arith}
-use borrow.Author.Tests.{lt-ltb, ne-eqb}
-use lib.Dec.{eqb, ltb, T, eqb→eq, ltb→lt}
+use borrow.Author.Tests.{lt-ltb}
+use lib.Dec.{eqb, ltb, ltb→lt}
 use lib.ListN.{getD}
 use Rattle.laws.specs.Choice.{pick}
-use Rattle.laws.proofs.Every.{every, below, either, and-left, and-right}
-use Rattle.laws.proofs.Tests.{true→T, T→true, pick-both}
+use Rattle.laws.proofs.Every.{and-left}
+use Rattle.laws.proofs.Tests.{true→T, pick-both}
 use Rattle.opcodes.specs.Codes.{fetch4}
-use Rattle.opcodes.specs.Instructions.{decode}
-use Rattle.opcodes.specs.Cycles.{codeOf, definedOf, cycling}
+use Rattle.opcodes.specs.Cycles.{codeOf, cycling}
 use Rattle.opcodes.specs.Kinds.{kindOf, writesOf, raisesOf, isNone}
-use Rattle.opcodes.specs.Totals.{listedTotal}
 use Rattle.opcodes.specs.declared.cycle.Acknowledge.{Acknowledge}
 use Rattle.opcodes.specs.declared.cycle.Acknowledge.the-variants.{None, Running, Halted}
-use Rattle.effect.specs.Kept.{keptFor, keepOf}
+use Rattle.effect.specs.Kept.{keptFor}
 use Rattle.effect.specs.Bus.{addressOf}
 use Rattle.machine.specs.declared.record.Position.{Position}
-use Rattle.machine.specs.declared.record.Position.the-variants.{Fetch, Hold, Halt}
+use Rattle.machine.specs.declared.record.Position.the-variants.{Fetch, Halt}
 use Rattle.machine.specs.declared.record.Machine.{Machine}
-use Rattle.machine.specs.Cycle.{afterOf, cyclesOf}
-use Rattle.machine.specs.Ending.{takesOf, acknowledgeOf, clearOf, isHlt, endedOf, followOf, holdOf}
+use Rattle.machine.specs.Ending.{takesOf, acknowledgeOf, clearOf, isHlt, endedOf}
 use Rattle.machine.specs.Look.{firstPcOf}
 use Rattle.machine.specs.Request.{askedOf, restartOf}
-use Rattle.machine.specs.Step.{risenOf, haltedOf}
+use Rattle.machine.specs.Step.{risenOf}
 use Rattle.run.specs.State.{byteOn}
 use Rattle.demands.specs.Begins.{Acknowledges}
-use Rattle.demands.specs.Outside.{Outside, Moment, did, up}
-use Rattle.demands.proofs.Work.{Work, closing, opcodeOf, here, workOf}
+use Rattle.demands.specs.Outside.{Outside, Moment}
+use Rattle.demands.proofs.Work.{Work, closing, opcodeOf, workOf}
 use Rattle.demands.specs.Manual.{Result}
 use Rattle.demands.specs.Board.{Board}
-use Rattle.demands.specs.Bound.{Neither}
 use Rattle.demands.specs.Legs.{afterwards, opcodeAt, restartByte}
 use Rattle.demands.proofs.Opcode.{back}
-use Rattle.demands.proofs.Steps.{step, with, opening, ended-clock, hold-off}
 use Rattle.demands.proofs.Going.{Ended}
 
 -- two positions are not one
@@ -81,38 +75,6 @@ pub opcode-ack : (E : Outside) (b : Board) (a : Acknowledge) (n : ℕ) → isNon
 opcode-ack E b a n e l k =
     restarts E (workOf b) a n e k ∙ ap restartByte (let q : n % 8 ≡ n = omega arith in q)
 
--- a restart is defined, and has 11 states
-eleven : ℕ → Bool → Bool
-eleven k met = definedOf (0xC7 + 8 * k) && eqb (listedTotal (decode (0xC7 + 8 * k)) met) 11
-
-elevens : ℕ → Bool
-elevens k = eleven k true && eleven k false
-
-all-eleven : T (every elevens 8)
-unfolding elevens eleven cycling listedTotal
-all-eleven = tt
-
-module _ (n : ℕ) (l : n < 8) where
-  eleven-is : (met : Bool) → T (eleven n met)
-  unfolding elevens
-  eleven-is met = either (eleven n) (below elevens 8 all-eleven n l) met
-
-  pub restart-defined : definedOf (restartByte n) ≡ true
-  unfolding eleven
-  restart-defined =
-      T→true (definedOf (restartByte n))
-      (and-left (definedOf (restartByte n)) (eqb (listedTotal (decode (restartByte n)) true) 11) (eleven-is true))
-
-  pub restart-total : (met : Bool) → listedTotal (decode (restartByte n)) met ≡ 11
-  unfolding eleven
-  restart-total met =
-      eqb→eq (listedTotal (decode (restartByte n)) met) 11
-      (and-right (definedOf (restartByte n)) (eqb (listedTotal (decode (restartByte n)) met) 11) (eleven-is met))
-
-  -- and is neither EI nor DI
-  pub restart-neither : Neither (restartByte n)
-  restart-neither = (ne-eqb (restartByte n) 0xFB (λ e. omega arith), ne-eqb (restartByte n) 0xF3 (λ e. omega arith))
-
 -- the end of an instruction asks for the opcode only
 pub ended-as : (d : Work) (op : ℕ) (t : Moment) → d .kept .opcode ≡ op → Ended d t ≡ afterwards op (closing d) t
 unfolding endedOf takesOf acknowledgeOf clearOf
@@ -148,27 +110,3 @@ unfolding endedOf takesOf acknowledgeOf keptFor
 after-takes op a t e i u =
     let l : ltb (t .lines .int) 8 ≡ true = lt-ltb (t .lines .int) 8 u in
     (rw (l, i, e), rw (l, i, e) (acked (eqb op 0x76)))
-
--- the work in the holds after a halt state
-abbrev pub halted : Work → Work
-halted d = record { regs = d .regs; kept = keepOf 1 0x76 (d .kept); memory = d .memory; outputs = d .outputs }
-
-abbrev pub kept-all : Work → Result
-kept-all d = record { regs = d .regs; memory = d .memory; outputs = d .outputs }
-
-module _ (E : Outside) (d : Work) (t : Moment) where
-  pub halt-on : up E (t .clock) ≡ true → step E (here d Halt t) ≡ here (halted d) (Hold 2) (did E t)
-  unfolding opening haltedOf holdOf
-  halt-on h = rw h
-
-  pub halt-off : up E (t .clock) ≡ false → step E (here d Halt t) ≡ afterwards 0x76 (kept-all d) (did E t)
-  unfolding opening haltedOf holdOf followOf endedOf takesOf acknowledgeOf clearOf keepOf
-  halt-off h =
-      rw h
-      (ap (with d)
-      (ended-clock (t .clock + 1)
-      (here (halted d) Halt (record { lines = did E t .lines; clock = t .clock }) .machine)))
-
-  pub halt-held : up E (t .clock) ≡ false → step E (here (halted d) (Hold 2) t) ≡ afterwards 0x76 (kept-all d) (did E t)
-  unfolding followOf endedOf takesOf acknowledgeOf clearOf keepOf afterOf cyclesOf cycling
-  halt-held h = hold-off E (halted d) 1 t h

@@ -16,17 +16,17 @@ use Rattle.demands.proofs.Work.{Work, useCycle, uses}
 use Rattle.demands.specs.Board.{Board}
 use Rattle.demands.specs.Own.{own}
 use Rattle.demands.proofs.Stretches.{clock-pass, pass-add, row-one, waits-one}
-use Rattle.demands.proofs.Steps.{size, next}
+use Rattle.demands.proofs.Steps.{size}
 use Rattle.demands.proofs.Courses.{drop-next, code-at, Shaped, shape-parts, later-rest, course-shape}
 use Rattle.demands.proofs.Phases.{Over}
 use Rattle.demands.proofs.Fetches.{fetch-waits, fetch-same, fetch-opcode}
-use Rattle.demands.proofs.Going.{Rest, op, cs, Sofar, first, use-opcode}
-use Rattle.demands.proofs.Going.{use-flags, use-inte}
+use Rattle.demands.proofs.Opcode.{use-opcode, use-flags, use-inte}
+use Rattle.demands.proofs.Going.{Rest, op, cs, afterFetch, Sofar}
 
 -- one cycle more stands in front of those that are left
-pub more-forced : (E : Outside) (x : ℕ) (l : List ℕ) (t u v W H w h s : ℕ) → Waits (waitsOf x) E (t + 1) W → statesOf x ≡ s
+pub more-forced : (E : Outside) (x : ℕ) (l : List ℕ) (t u W H w h s : ℕ) → Waits (waitsOf x) E (t + 1) W → statesOf x ≡ s
     → Unbroken (up E) (t + (s + W - 1)) H → u ≡ t + (s + W + H) → Forced E l u w h → Forced E (x ∷ l) t (W + w) (H + h)
-more-forced E x l t u v W H w h s a e r q f =
+more-forced E x l t u W H w h s a e r q f =
     one W H a (subst (λ (z : ℕ). Unbroken (up E) (t + (z + W - 1)) H) (sym e) r)
     (subst (λ (z : ℕ). Forced E l z w h) (q ∙ ap (λ (z : ℕ). t + (z + W + H)) (sym e)) f)
 
@@ -46,25 +46,20 @@ less-forced E x l t u W H s _ _ a e r q (one {w = w} {h = h} W' H' a' r' f) =
       all-holds = omega arith;
     }
 
+-- the states of the first cycle
+pub first-states : (E : Outside) (d₀ : Work) (x : ℕ) (l : List ℕ) → definedOf (op E d₀) ≡ true → cs E d₀ ≡ x ∷ l
+    → statesOf x ≡ size 0 (op E d₀)
+first-states E d₀ x l d e = sym (ap statesOf (code-at (op E d₀) (true→T (definedOf (op E d₀)) d) (d₀ .regs .f) 0 x l e))
+
 module _ (E : Outside) (d₀ : Work) (t₀ : Moment) where
-  abbrev op₀ : ℕ
-  op₀ = op E d₀ t₀
-
-  abbrev cs₀ : List ℕ
-  cs₀ = cs E d₀ t₀
-
-  abbrev u₀ : Work
-  u₀ = useCycle E fetch4 0 d₀
-
   -- the first cycle is over
-  pub over-first : (x : ℕ) (l : List ℕ) → definedOf op₀ ≡ true → cs₀ ≡ x ∷ l → {b : Board} {i o : ℕ}
-      → Over E u₀ 0 fetch4 (size 0 op₀) t₀ b i o
-      → Sofar E d₀ t₀ 0 u₀ (didTimes E (suc i) t₀) (suc i) (own (b .machine .next) + o) x l
+  pub over-first : (x : ℕ) (l : List ℕ) → definedOf (op E d₀) ≡ true → cs E d₀ ≡ x ∷ l → {b : Board} {i o : ℕ}
+      → Over E (afterFetch E d₀) 0 fetch4 (size 0 (op E d₀)) t₀ b i o
+      → Sofar E d₀ t₀ 0 (afterFetch E d₀) (didTimes E (suc i) t₀) (suc i) (own (b .machine .next) + o) x l
   over-first x l d e {b} {i} {o} v =
-      let s : Shaped x l = shape-parts x l (subst (λ (z : List ℕ). T (shape z)) e (course-shape op₀ (d₀ .regs .f) d)) in
-      let n : statesOf x ≡ size 0 op₀ =
-      sym (ap statesOf (code-at op₀ (true→T (definedOf op₀) d) (d₀ .regs .f) 0 x l e)) in
-      let total : totalOf cs₀ ≡ statesOf x + totalOf l = ap totalOf e in
+      let s : Shaped x l = shape-parts x l (subst (λ (z : List ℕ). T (shape z)) e (course-shape (op E d₀) (d₀ .regs .f) d)) in
+      let n = first-states E d₀ x l d e in
+      let total : totalOf (cs E d₀) ≡ statesOf x + totalOf l = ap totalOf e in
       record {
         defined = d;
         place = e;
@@ -82,12 +77,12 @@ module _ (E : Outside) (d₀ : Work) (t₀ : Moment) where
         close =
             λ w h f.
             subst (λ (z : List ℕ). Forced E z (t₀ .clock) (v .W + w) (v .H + h)) (sym e)
-            (more-forced E x l (t₀ .clock) _ 0 (v .W) (v .H) w h (size 0 op₀)
+            (more-forced E x l (t₀ .clock) _ (v .W) (v .H) w h (size 0 (op E d₀))
             (subst (λ (z : Bool). Waits z E (t₀ .clock + 1) (v .W)) (sym (fetch-waits x (s .fetches) (s .first))) (v .waits)) n
             (v .holds) (clock-pass E (suc i) t₀ ∙ ap (λ (z : ℕ). t₀ .clock + z) (v .count)) f);
         apart =
             λ w h f.
-            less-forced E x l (t₀ .clock) _ (v .W) (v .H) (size 0 op₀) w h
+            less-forced E x l (t₀ .clock) _ (v .W) (v .H) (size 0 (op E d₀)) w h
             (subst (λ (z : Bool). Waits z E (t₀ .clock + 1) (v .W)) (sym (fetch-waits x (s .fetches) (s .first))) (v .waits)) n
             (v .holds) (clock-pass E (suc i) t₀ ∙ ap (λ (z : ℕ). t₀ .clock + z) (v .count))
             (subst (λ (z : List ℕ). Forced E z (t₀ .clock) w h) e f);
@@ -98,7 +93,8 @@ module _ (E : Outside) (d₀ : Work) (t₀ : Moment) where
     pub code-is : codeOf (d .kept .opcode) (suc (suc c)) ≡ y
     code-is =
         ap (λ (z : ℕ). codeOf z (suc (suc c))) (s .opcode)
-        ∙ code-at op₀ (true→T (definedOf op₀) (s .defined)) (d₀ .regs .f) (suc c) y l (drop-next cs₀ c x (y ∷ l) (s .place))
+        ∙ code-at (op E d₀) (true→T (definedOf (op E d₀)) (s .defined)) (d₀ .regs .f) (suc c) y l
+        (drop-next (cs E d₀) c x (y ∷ l) (s .place))
 
     pub size-is : size (suc c) (useCycle E y (suc c) d .kept .opcode) ≡ statesOf y
     size-is = ap (size (suc c)) (use-opcode E y c d) ∙ ap statesOf code-is
@@ -109,7 +105,7 @@ module _ (E : Outside) (d₀ : Work) (t₀ : Moment) where
     over-later {b} {i} {o} v =
         record {
           defined = s .defined;
-          place = drop-next cs₀ c x (y ∷ l) (s .place);
+          place = drop-next (cs E d₀) c x (y ∷ l) (s .place);
           opcode = use-opcode E y c d ∙ s .opcode;
           flags = use-flags E y (suc c) d ∙ s .flags;
           inte = use-inte E y (suc c) d ∙ s .inte;
@@ -122,12 +118,12 @@ module _ (E : Outside) (d₀ : Work) (t₀ : Moment) where
           count = omega (arith, s .count, v .count, v .owned);
           close =
               λ w h f.
-              subst (λ (z : ℕ). Forced E cs₀ (t₀ .clock) z (s .h + v .H + h))
+              subst (λ (z : ℕ). Forced E (cs E d₀) (t₀ .clock) z (s .h + v .H + h))
               (let z : s .w + (v .W + w) ≡ s .w + v .W + w = omega arith in z)
-              (subst (λ (z : ℕ). Forced E cs₀ (t₀ .clock) (s .w + (v .W + w)) z)
+              (subst (λ (z : ℕ). Forced E (cs E d₀) (t₀ .clock) (s .w + (v .W + w)) z)
               (let z : s .h + (v .H + h) ≡ s .h + v .H + h = omega arith in z)
               (s .close (v .W + w) (v .H + h)
-              (more-forced E y l (t .clock) _ 0 (v .W) (v .H) w h (statesOf y) (v .waits) refl (v .holds)
+              (more-forced E y l (t .clock) _ (v .W) (v .H) w h (statesOf y) (v .waits) refl (v .holds)
               (clock-pass E (suc i) t ∙ ap (λ (z : ℕ). t .clock + z) (v .count)) f)));
           apart =
               λ w h f.

@@ -16,10 +16,10 @@ use Rattle.demands.specs.Rows.{Through, Unbroken, Waits}
 use Rattle.demands.proofs.Work.{Work, risen, here}
 use Rattle.demands.specs.Board.{Board}
 use Rattle.demands.specs.Own.{own}
-use Rattle.demands.proofs.Stretches.{bool, clock-pass, through-more, through-none, row-end}
-use Rattle.demands.proofs.Steps.{step, size, next, ended, Ending, Done, hold-on, wait-on, wait-off, second-on, second-up}
-use Rattle.demands.proofs.Steps.{second-down}
-use Rattle.demands.proofs.Lasts.{end-on, end-off, held-off, fourth-end, fourth-on, fifth-end}
+use Rattle.demands.proofs.Stretches.{bool, clock-pass, through-none, row-next}
+use Rattle.demands.proofs.Steps.{step, size, next, ended, Ending, Done}
+use Rattle.demands.proofs.Firsts.{second-on, second-up, second-down, wait-on, wait-off}
+use Rattle.demands.proofs.Lasts.{hold-on, end-on, end-off, held-off, fourth-end, fourth-on, fifth-end}
 
 -- the cycle c with this code, begun at the moment t with the work d: after i states, o of them neither waits nor holds
 module _ (E : Outside) (d : Work) (c code : ℕ) (t : Moment) where
@@ -50,33 +50,18 @@ module _ (E : Outside) (d : Work) (c code : ℕ) (t : Moment) where
   early-step e second =
       ⊎-elim
       (λ (w : waitsOf code ≡ true).
-      ⊎-elim
-      (λ (h : down E (t .clock + 1) ≡ true).
-      inl
-      (moved (second-down E d c (didTimes E 1 t) code e w h)
-      (waiting 0 2 refl w (through-more (down E) (t .clock + 1) 0 (t .clock + 1) (through-none (down E) _) (omega arith) h))))
-      (λ (h : down E (t .clock + 1) ≡ false).
-      inl
-      (moved (second-up E d c (didTimes E 1 t) code e h)
-      (third 0 2 refl
-      (waits-as true 0 w (row-end (down E) (t .clock + 1) 0 (t .clock + 1) (through-none (down E) _) (omega arith) h)))))
-      (bool (down E (t .clock + 1))))
+      row-next (down E) (t .clock + 1) 0 (t .clock + 1) (through-none (down E) _) (omega arith)
+      (λ h r. inl (moved (second-down E d c (didTimes E 1 t) code e w h) (waiting 0 2 refl w r)))
+      (λ h r. inl (moved (second-up E d c (didTimes E 1 t) code e h) (third 0 2 refl (waits-as true 0 w r)))))
       (λ (w : waitsOf code ≡ false).
       inl (moved (second-on E d c (didTimes E 1 t) code e w) (third 0 2 refl (waits-as false 0 w refl))))
       (bool (waitsOf code))
   early-step e (waiting j i q w h) =
-      let at : didTimes E i t .clock ≡ t .clock + 1 + suc j = clock-pass E i t ∙ omega arith in
-      ⊎-elim
-      (λ (p : down E (didTimes E i t .clock) ≡ true).
+      row-next (down E) (t .clock + 1) (suc j) (didTimes E i t .clock) h (clock-pass E i t ∙ omega arith)
+      (λ p r. inl (moved (wait-on E (risen code d) c (didTimes E i t) p) (waiting (suc j) (suc i) (omega arith) w r)))
+      (λ p r.
       inl
-      (moved (wait-on E (risen code d) c (didTimes E i t) p)
-      (waiting (suc j) (suc i) (omega arith) w (through-more (down E) (t .clock + 1) (suc j) (didTimes E i t .clock) h at p))))
-      (λ (p : down E (didTimes E i t .clock) ≡ false).
-      inl
-      (moved (wait-off E (risen code d) c (didTimes E i t) p)
-      (third (suc j) (suc i) (omega arith)
-      (waits-as true (suc j) w (row-end (down E) (t .clock + 1) (suc j) (didTimes E i t .clock) h at p)))))
-      (bool (down E (didTimes E i t .clock)))
+      (moved (wait-off E (risen code d) c (didTimes E i t) p) (third (suc j) (suc i) (omega arith) (waits-as true (suc j) w r))))
   early-step e (third W i q h) = inr (record { W = W; count = q; owned = refl; waits = h; board = refl })
 
 -- the same from T4 on, where the cycle has s states, and u is the work after T3
@@ -110,30 +95,22 @@ module _ (E : Outside) (u : Work) (c code s : ℕ) (t : Moment) where
       (subst (λ (x : Board). Late x (suc i) (own (b .machine .next) + o)) (sym e)
       (subst (λ (x : ℕ). Late b' (suc i) x) (sym q) h))
 
-  -- the last state of the cycle
+  -- the last state of the cycle, or a hold after it
+  hold-step : (b : Board) (i o W j : ℕ) → suc i ≡ s + W + j → 0 < s → own (b .machine .next) + o ≡ s
+      → Waits (waitsOf code) E (t .clock + 1) W → Through (up E) (t .clock + (s + W - 1)) j
+      → (up E (didTimes E i t .clock) ≡ true → step E b ≡ here (ended c u) (Hold (suc c)) (didTimes E (suc i) t))
+      → (up E (didTimes E i t .clock) ≡ false → step E b ≡ Done c u (didTimes E (suc i) t)) → Onward b i o
+  hold-step b i o W j q z n w h on off =
+      row-next (up E) (t .clock + (s + W - 1)) j (didTimes E i t .clock) h (clock-pass E i t ∙ omega arith)
+      (λ p r. turned _ (on p) n (holding W j (suc i) z q w r))
+      (λ p r. inr (record { W = W; H = j; waits = w; holds = r; count = q; owned = n; board = off p }))
+
   pub last-step : (b : Board) (i o W : ℕ) (p : Position)
       → step E b ≡ Ending c (next c (u .kept .opcode) (u .regs)) p u (did E (didTimes E i t)) → suc i ≡ s + W
       → 0 < s → own (b .machine .next) + o ≡ s → Waits (waitsOf code) E (t .clock + 1) W → Onward b i o
   last-step b i o W p e q z n w =
-      let at : didTimes E i t .clock ≡ t .clock + (s + W - 1) = clock-pass E i t ∙ omega arith in
-      let from : didTimes E i t .clock ≡ t .clock + (s + W - 1) + 0 = at ∙ omega arith in
-      ⊎-elim
-      (λ (h : up E (didTimes E i t .clock) ≡ true).
-      turned (here (ended c u) (Hold (suc c)) (didTimes E (suc i) t)) (e ∙ end-on E u c (didTimes E i t) p h) n
-      (holding W 0 (suc i) z (omega arith) w
-      (through-more (up E) (t .clock + (s + W - 1)) 0 (didTimes E i t .clock) (through-none (up E) _) from h)))
-      (λ (h : up E (didTimes E i t .clock) ≡ false).
-      inr
-      (record {
-        W = W;
-        H = 0;
-        waits = w;
-        holds = row-end (up E) (t .clock + (s + W - 1)) 0 (didTimes E i t .clock) (through-none (up E) _) from h;
-        count = omega arith;
-        owned = n;
-        board = e ∙ end-off E u c (didTimes E i t) p h;
-      }))
-      (bool (up E (didTimes E i t .clock)))
+      hold-step b i o W 0 (omega arith) z n w (through-none (up E) _) (λ h. e ∙ end-on E u c (didTimes E i t) p h)
+      (λ h. e ∙ end-off E u c (didTimes E i t) p h)
 
   pub late-step : {b : Board} {i o : ℕ} → size c (u .kept .opcode) ≡ s → Late b i o → Onward b i o
   late-step e (fourth W i q w (inl h)) =
@@ -146,21 +123,5 @@ module _ (E : Outside) (u : Work) (c code s : ℕ) (t : Moment) where
   late-step e (fifth W i q w h) =
       last-step _ i 4 W (Later (suc c) 5) (fifth-end E u c (didTimes E i t)) (omega arith) (omega arith) (omega arith) w
   late-step e (holding W j i z q w h) =
-      let at : didTimes E i t .clock ≡ t .clock + (s + W - 1) + suc j = clock-pass E i t ∙ omega arith in
-      ⊎-elim
-      (λ (p : up E (didTimes E i t .clock) ≡ true).
-      turned (here (ended c u) (Hold (suc c)) (didTimes E (suc i) t)) (hold-on E (ended c u) c (didTimes E i t) p) (zero-add s)
-      (holding W (suc j) (suc i) z (omega arith) w
-      (through-more (up E) (t .clock + (s + W - 1)) (suc j) (didTimes E i t .clock) h at p)))
-      (λ (p : up E (didTimes E i t .clock) ≡ false).
-      inr
-      (record {
-        W = W;
-        H = suc j;
-        waits = w;
-        holds = row-end (up E) (t .clock + (s + W - 1)) (suc j) (didTimes E i t .clock) h at p;
-        count = omega arith;
-        owned = zero-add s;
-        board = held-off E u c (didTimes E i t) p;
-      }))
-      (bool (up E (didTimes E i t .clock)))
+      hold-step _ i s W (suc j) (omega arith) z (zero-add s) w h (λ p. hold-on E (ended c u) c (didTimes E i t) p)
+      (λ p. held-off E u c (didTimes E i t) p)

@@ -3,6 +3,7 @@ use Prim.Native.Nat.{ℕ, _+_, _%_, _<_}
 use mathlib.Core.Path.{_≡_, sym, ap, _∙_, subst}
 use mathlib.Core.Bool.{Bool, true, false}
 use native.Mathlib.Omega.{arith}
+use lib.Dec.{eqb}
 use Rattle.laws.proofs.Tests.{true→T}
 use Rattle.opcodes.specs.Condition.{metOf}
 use Rattle.opcodes.specs.Instructions.{decode}
@@ -23,14 +24,12 @@ use Rattle.demands.specs.Course.{courseOf}
 use Rattle.demands.specs.Bound.{Neither, underWay}
 use Rattle.demands.specs.Manual.{Result}
 use Rattle.demands.specs.States.{manualStates}
-use Rattle.demands.specs.Legs.{afterwards, opcodeAt, manualAt, statesAt, restartByte, restartAt}
-use Rattle.demands.specs.Legs.{courseAt}
+use Rattle.demands.specs.Legs.{afterwards, opcodeAt, manualAt, statesAt, courseAt, restartByte, restartAt}
 use Rattle.demands.proofs.Digits.{met-is}
 use Rattle.demands.proofs.Manual.{cycles-do, restart-does}
 use Rattle.demands.proofs.Courses.{course-total}
 use Rattle.demands.proofs.Going.{Finished}
-use Rattle.demands.proofs.Openings.{Start}
-use Rattle.demands.proofs.Openings.{after-takes, ended-as, after-start}
+use Rattle.demands.proofs.Openings.{Start, ended-as, after-start, after-takes}
 
 module _ (E : Outside) (b₀ : Board) where
   -- the states of the opcode op, and what its cycles leave n states later
@@ -96,8 +95,14 @@ module _ (E : Outside) (b₀ : Board) where
       ≡ restartAt E b₀ m)
       q (restart-does E (b₀ .machine .regs) (b₀ .memory) (b₀ .outputs) n a z off (met (n % 8)))
 
+  -- a leg begins there, with an acknowledge where INTE is on, INT up, and the opcode not EI
   pub start-done : (op n : ℕ) (a : Result) {b : Board} → b ≡ afterwards op a (didTimes E n (momentOf b₀)) → Start b
   start-done op n a e = subst Start (sym e) (after-start op a (didTimes E n (momentOf b₀)))
+
+  pub takes-done : (op n : ℕ) (a : Result) {b : Board} → b ≡ afterwards op a (didTimes E n (momentOf b₀)) → eqb op 0xFB ≡ false
+      → a .regs .inte ≡ true → didTimes E n (momentOf b₀) .lines .int < 8 → Acknowledges (b .machine)
+  takes-done op n a e z t u =
+      subst (λ (x : Board). Acknowledges (x .machine)) (sym e) (after-takes op a (didTimes E n (momentOf b₀)) z t u)
 
   pub under-fetch : b₀ .machine .next ≡ Fetch → b₀ .machine .kept ≡ keptFor None 0 → underWay b₀ ≡ opcodeAt b₀
   unfolding keptFor
@@ -109,6 +114,5 @@ module _ (E : Outside) (b₀ : Board) where
   finish-takes {b} {i} f n t u =
       let cs = courseOf (opcodeOf E (workOf b₀)) (b₀ .machine .regs .f) in
       let d = uses E 0 cs (workOf b₀) in
-      subst (λ (x : Board). Acknowledges (x .machine))
-      (sym (f .board ∙ ended-as d (opcodeOf E (workOf b₀)) (didTimes E i (momentOf b₀)) (f .opcode)))
-      (after-takes (opcodeOf E (workOf b₀)) (closing d) (didTimes E i (momentOf b₀)) (n .0) (f .inte n ∙ t) u)
+      takes-done (opcodeOf E (workOf b₀)) i (closing d)
+      (f .board ∙ ended-as d (opcodeOf E (workOf b₀)) (didTimes E i (momentOf b₀)) (f .opcode)) (n .0) (f .inte n ∙ t) u

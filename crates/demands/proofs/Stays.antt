@@ -2,7 +2,7 @@
 use Prim.Native.Nat.{ℕ, zero, suc, _+_, _≤_, _<_}
 use mathlib.Core.Path.{_≡_, refl, sym, ap, _∙_, subst}
 use mathlib.Core.Bool.{Bool, true, false, true≢false}
-use mathlib.Core.Logic.{_⊎_, ⊎-elim}
+use mathlib.Core.Logic.{⊎-elim}
 use native.Mathlib.Omega.{arith}
 use native.Mathlib.Nat.{zero-add, suc-add}
 use Rattle.laws.specs.Choice.{pick}
@@ -16,7 +16,8 @@ use Rattle.demands.specs.Begins.{begins}
 use Rattle.demands.specs.Legs.{Tally, opcodeAt, manualAt, statesAt, restartByte, restartAt}
 use Rattle.demands.specs.Legs.{Leg, instruction, acknowledge, halt}
 use Rattle.demands.proofs.Steps.{step, run}
-use Rattle.demands.proofs.Openings.{Start, fetching, answering, halting, after-start, kept-all}
+use Rattle.demands.proofs.Openings.{Start, fetching, answering, halting, after-start}
+use Rattle.demands.proofs.Halts.{kept-all}
 use Rattle.demands.proofs.Journeys.{Now, Ran, Stopped, now-step}
 use Rattle.demands.proofs.Runs.{now-within, now-awake, Ends, inside, stopped, leg, run-on, run-off, at-stop}
 

@@ -1,17 +1,17 @@
--- One state of a board, and many, over levels that are functions of the state's number and a clock that has no end; and what
--- each sort of state does. Here cycles count from 0. Assumes nothing.
+-- One state of a board, and many, over levels that are functions of the state's number and a clock that has no end. Here
+-- cycles count from 0. Assumes nothing.
 use Prim.Native.Nat.{ℕ, zero, suc, _+_}
 use mathlib.Core.Path.{_≡_, refl, ap, _∙_}
-use mathlib.Core.Bool.{Bool, true, false, _&&_}
-use lib.Dec.{eqb, eqb·suc-suc, eqb·suc-zero}
+use mathlib.Core.Bool.{Bool, true, false}
+use lib.Dec.{eqb}
 use Rattle.laws.specs.Choice.{pick}
 use Rattle.opcodes.specs.Cycles.{codeOf}
-use Rattle.opcodes.specs.Kinds.{statesOf, waitsOf}
+use Rattle.opcodes.specs.Kinds.{statesOf}
 use Rattle.opcodes.specs.declared.cycle.Acknowledge.the-variants.{Running, Halted}
 use Rattle.effect.specs.declared.registers.Registers.{Registers}
 use Rattle.effect.specs.Effect.{effectOf}
 use Rattle.machine.specs.declared.record.Position.{Position}
-use Rattle.machine.specs.declared.record.Position.the-variants.{Fetch, Later, Wait, Hold, Halt}
+use Rattle.machine.specs.declared.record.Position.the-variants.{Fetch, Later, Hold, Halt}
 use Rattle.machine.specs.declared.record.Machine.{Machine}
 use Rattle.machine.specs.Record.{withNext, withRegs, withKept, withLines, withClock}
 use Rattle.machine.specs.Cycle.{afterOf, cyclesOf, cycleOf}
@@ -21,8 +21,8 @@ use Rattle.machine.specs.Look.{placeOf, standsOf, shownOf, lookAt, lookOf}
 use Rattle.machine.specs.Request.{requestOf}
 use Rattle.run.specs.State.{asked, heard, byteOn, memoryAfter, outputsAfter}
 use Rattle.run.specs.Run.{stoppedOf}
-use Rattle.demands.specs.Outside.{Outside, Moment, did, down, up}
-use Rattle.demands.proofs.Work.{Work, risen, here}
+use Rattle.demands.specs.Outside.{Outside, Moment}
+use Rattle.demands.proofs.Work.{Work, here}
 use Rattle.demands.specs.Board.{Board}
 
 -- the machine m in its next state, with the levels of that state
@@ -89,10 +89,6 @@ pub pick-ap : {A B : Type 0} (f : A → B) (b : Bool) (x y : A) → f (pick b x 
 pick-ap f true x y = refl
 pick-ap f false x y = refl
 
-and-false : (b : Bool) → (b && false) ≡ false
-and-false true = refl
-and-false false = refl
-
 -- the clock plays no part in how a cycle ends
 pub ended-clock : (u : ℕ) (m : Machine) → withClock u (endedOf m) ≡ endedOf (withClock u m)
 unfolding endedOf acknowledgeOf clearOf takesOf withClock
@@ -114,50 +110,3 @@ hold-clock u c n m =
 pub end-clock : (u c n : ℕ) (m : Machine) → withClock u (endOf c n m) ≡ endOf c n (withClock u m)
 unfolding endOf withRegs withClock
 end-clock u c n m = hold-clock u c n (withRegs (pick (eqb n 0) (effectOf (m .kept) (m .regs)) (m .regs)) m)
-
-pub two : (c : ℕ) → eqb (suc (suc c)) 1 ≡ false
-two c = eqb·suc-suc (suc c) 0 ∙ eqb·suc-zero c
-
-module _ (E : Outside) (d : Work) (c : ℕ) (t : Moment) where
-  pub hold-on : up E (t .clock) ≡ true → step E (here d (Hold (suc c)) t) ≡ here d (Hold (suc c)) (did E t)
-  unfolding opening holdOf
-  hold-on h = rw h
-
-  pub hold-off : up E (t .clock) ≡ false
-      → step E (here d (Hold (suc c)) t)
-      ≡ with d (followOf (next c (d .kept .opcode) (d .regs)) (here d (Hold (suc c)) (did E t) .machine))
-  unfolding opening holdOf
-  hold-off h =
-      rw h
-      (ap (with d) (follow-clock (t .clock + 1) (next c (d .kept .opcode) (d .regs)) (driven E (here d (Hold (suc c)) t .machine))))
-
-  pub wait-on : down E (t .clock) ≡ true → step E (here d (Wait (suc c)) t) ≡ here d (Wait (suc c)) (did E t)
-  unfolding opening
-  wait-on h = rw h
-
-  pub wait-off : down E (t .clock) ≡ false → step E (here d (Wait (suc c)) t) ≡ here d (Later (suc c) 3) (did E t)
-  unfolding opening
-  wait-off h = rw h
-
-  pub fetch-first : step E (here d Fetch t) ≡ here d (Later 1 2) (did E t)
-  unfolding opening
-  fetch-first = refl
-
-  pub later-first : step E (here d (Later (suc c) 1) t) ≡ here d (Later (suc c) 2) (did E t)
-  unfolding opening
-  later-first = refl
-
-  module _ (code : ℕ) (e : codeOf (d .kept .opcode) (suc c) ≡ code) where
-    pub second-on : waitsOf code ≡ false → step E (here d (Later (suc c) 2) t) ≡ here (risen code d) (Later (suc c) 3) (did E t)
-    unfolding opening
-    second-on w = rw (e, w)
-
-    pub second-up : down E (t .clock) ≡ false
-        → step E (here d (Later (suc c) 2) t) ≡ here (risen code d) (Later (suc c) 3) (did E t)
-    unfolding opening
-    second-up h = rw (e, h, and-false (waitsOf code))
-
-    pub second-down : waitsOf code ≡ true → down E (t .clock) ≡ true
-        → step E (here d (Later (suc c) 2) t) ≡ here (risen code d) (Wait (suc c)) (did E t)
-    unfolding opening
-    second-down w h = rw (e, w, h)

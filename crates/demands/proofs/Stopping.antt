@@ -7,7 +7,6 @@ use native.Mathlib.Omega.{arith}
 use lib.Dec.{T}
 use Rattle.laws.specs.Choice.{pick}
 use Rattle.machine.specs.Well.{wellOf}
-use Rattle.run.specs.declared.answer.Verdict.the-variants as verdict
 use Rattle.run.specs.declared.answer.Ran.{Ran}
 use Rattle.run.specs.Run.{World, stoppedOf, eventfulOf, stateOf, runOf}
 use Rattle.run.proofs.Laws.{run-plus}
@@ -16,7 +15,6 @@ use Rattle.demands.specs.Board.{Board, boardOf}
 use Rattle.demands.specs.Calls.{worldOn, givenBack}
 use Rattle.demands.specs.Stopping.{Stopping, last, more, StopForced}
 use Rattle.demands.proofs.Bridge.{bridge, tracks-next}
-use Rattle.demands.proofs.Journeys as journeys
 use Rattle.demands.proofs.Fresh.{between-start}
 use Rattle.demands.proofs.Answered.{answer-good, good-time, good-well}
 use Rattle.demands.proofs.Calling.{same-boards, given-board, answered, runs-clock}

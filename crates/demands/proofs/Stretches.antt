@@ -25,7 +25,7 @@ pass-add E a (suc b) t =
 
 module _ (f : ℕ → Bool) where
   -- one state more
-  pub through-more : (t n u : ℕ) → Through f t n → u ≡ t + n → f u ≡ true → Through f t (suc n)
+  through-more : (t n u : ℕ) → Through f t n → u ≡ t + n → f u ≡ true → Through f t (suc n)
   through-more t n u h e p i l =
       ⊎-elim (λ (q : i ≡ n). ap f (let z : t + i ≡ u = omega arith in z) ∙ p) (λ (q : i < n). h i q)
       (eq-or-lt-of-le (le-of-suc-le-suc l))
@@ -34,8 +34,14 @@ module _ (f : ℕ → Bool) where
   through-none t i l = absurd (let no : ⊥ = omega arith in no)
 
   -- and the end of a row
-  pub row-end : (t n u : ℕ) → Through f t n → u ≡ t + n → f u ≡ false → Unbroken f t n
+  row-end : (t n u : ℕ) → Through f t n → u ≡ t + n → f u ≡ false → Unbroken f t n
   row-end t n u h e p = (h, ap f (sym e) ∙ p)
+
+  -- in the state u after a stretch the row goes on or is over
+  pub row-next : {A : Type 0} (t n u : ℕ) → Through f t n → u ≡ t + n → (f u ≡ true → Through f t (suc n) → A)
+      → (f u ≡ false → Unbroken f t n → A) → A
+  row-next t n u h e on off =
+      ⊎-elim (λ p. on p (through-more t n u h e p)) (λ p. off p (row-end t n u h e p)) (bool (f u))
 
   -- a row has one length
   shorter : (t n m : ℕ) → Unbroken f t n → Unbroken f t m → n < m → ⊥

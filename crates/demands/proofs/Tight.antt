@@ -6,7 +6,7 @@ use mathlib.Core.List.{[]}
 use native.Mathlib.Omega.{arith}
 use borrow.Author.Tests.{ne-eqb}
 use lib.Dec.{T, eqb, lit<}
-use lib.ListN.{length, replicate}
+use lib.ListN.{replicate}
 use Rattle.laws.proofs.Every.{every, below}
 use Rattle.laws.specs.Choice.{pick}
 use Rattle.machine.specs.declared.record.Lines.{Lines}
@@ -23,7 +23,7 @@ use Rattle.demands.specs.Bound.{sumBelow, Rises}
 use Rattle.demands.specs.Cards.{ports}
 use Rattle.demands.specs.Tight.{xthl, rising, after, BoundMet}
 use Rattle.demands.proofs.Open.{everything}
-use Rattle.demands.proofs.Cards.{zeros}
+use Rattle.demands.proofs.Cards.{zeros, lengths-good}
 use Rattle.demands.proofs.Calling.{same-boards}
 
 -- the run passes the tests
@@ -32,10 +32,7 @@ unfolding everything
 fair = refl
 
 passes : verdictOf (worldOn xthl (replicate 144 0)) ports rising 18 ≡ Good
-unfolding verdictOf
-passes =
-    let size : length (xthl .memory) ≡ 65536 = ap suc (zeros 65535) in
-    (λ i. checkOf (xthl .machine) (size i) (zeros 256 i) (zeros 256 i) rising (zeros 144 i) 18) ∙ fair
+passes = lengths-good (xthl .machine) (xthl .memory) rising 144 18 (ap suc (zeros 65535)) fair
 
 reached : Reached rising ports xthl 18 (boardOf (after 18))
 reached =

@@ -13,8 +13,6 @@ use Rattle.effect.specs.Kept.{keptFor}
 use Rattle.machine.specs.declared.record.Position.the-variants.{Fetch}
 use Rattle.machine.specs.Request.{askedOf}
 use Rattle.machine.specs.Step.{risenOf}
-use Rattle.run.specs.declared.answer.Verdict.the-variants as verdict
-use Rattle.run.specs.declared.answer.Answer.the-variants.{Stopped}
 use Rattle.run.specs.State.{memoryAfter, outputsAfter}
 use Rattle.run.specs.Run.{stoppedOf}
 use Rattle.demands.specs.Outside.{Outside}
