@@ -76,13 +76,17 @@ fits s out at h =
     let p = written-place s (textOf out at) h in
     λ i. record { bytes = e i; place = p i }
 
+-- a text leaves as many bytes as there were
+pub as-many : (s out o : List ℕ) (at r : ℕ) → textOf o r ≡ writtenOf s (textOf out at) → length o ≡ length out
+unfolding textOf
+as-many s out o at r e = ap (λ (t : Text). length (t .bytes)) e ∙ ap length (written-bytes s (textOf out at)) ∙ length-sets out at s
+
 -- and the place after a text that goes from the start of out on lies within out
 pub within : (s out o : List ℕ) (r : ℕ) → textOf o r ≡ writtenOf s (textOf out 0) → r ≤ length o
 unfolding textOf
 within s out o r e =
-    let bytes : o ≡ sets out 0 s = ap (λ (t : Text). t .bytes) e ∙ written-bytes s (textOf out 0) in
     let place : r ≡ writtenOf s (textOf out 0) .place = ap (λ (t : Text). t .place) e in
-    omega (arith, ap length bytes, length-sets out 0 s, place, written-within s (textOf out 0) (omega arith))
+    omega (arith, as-many s out o 0 r e, place, written-within s (textOf out 0) (omega arith))
 
 -- such a text is there whole where it fits
 pub whole : (s out o : List ℕ) (r : ℕ) → textOf o r ≡ writtenOf s (textOf out 0) → length s ≤ length out

@@ -1,39 +1,11 @@
 -- `listing::lines::state_line` meets its contract.
 -- Assumes nothing.
-use native.Mathlib.Omega.{arith}
 use borrow.Author.Needs.{needs}
 use Rattle.listing.specs.Lines.{stateLineOf}
 use Rattle.listing.proofs.Written.{both, more, one}
+use Rattle.listing.proofs.Room.{as-many}
 use Rattle.listing.proofs.lines.state_line.Statement.{statement}
 use Rattle.listing.proofs.lines.state_line.Tie as tie
-
-same-length : tie.Need-same-length
-same-length c =
-    let feed = c .before .before in
-    let shown = feed .before .before .before .before in
-    let gap4 = shown .before .before .before .before .before in
-    let low = gap4 .before .before .before .before in
-    let high = low .before .before .before .before .before in
-    let gap3 = high .before .before .before .before .before in
-    let kind = gap3 .before .before .before .before in
-    let gap2 = kind .before .before .before .before .before in
-    let name = gap2 .before .before .before .before in
-    let gap = name .before .before .before .before .before in
-    let number = gap .before .before .before .before in
-    omega (
-      arith,
-      feed .put5 .kept .0,
-      shown .byte3 .kept .0,
-      gap4 .put4 .kept .0,
-      low .byte2 .kept .0,
-      high .byte .kept .0,
-      gap3 .put3 .kept .0,
-      kind .decimal2 .kept .0,
-      gap2 .put2 .kept .0,
-      name .name .kept .0,
-      gap .put .kept .0,
-      number .decimal .kept .0,
-    )
 
 -- the pieces one after the other, with the row's fields in them
 returns : tie.Need-returns
@@ -63,6 +35,9 @@ returns c =
       ← (shown .before .field5 .ensures),
     )
     (both _ _ _ read (one _ _ (feed .put5 .ensures)))
+
+same-length : tie.Need-same-length
+same-length c = as-many _ _ _ _ _ (returns c)
 
 pub state-line-spec : {M : Type 1} → statement M
 state-line-spec =
