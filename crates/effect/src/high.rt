@@ -132,7 +132,7 @@ fn restart(n: u8, met: bool, k: Kept, r: Registers) -> Registers
     call_to(8 * (n as u16), r)
 }
 
-pub fn high(y: u8, z: u8, met: bool, k: Kept, r: Registers) -> Registers
+pub(crate) fn high(y: u8, z: u8, met: bool, k: Kept, r: Registers) -> Registers
     requires { ⌜ (y < 8) × (z < 8) ⌝ }
     ensures { λ s. ⌜ s ≡ finish (decode3 y z) met k r ⌝ }
 {

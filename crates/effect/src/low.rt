@@ -116,7 +116,7 @@ fn accumulate(y: u8, r: Registers) -> Registers
     with_result(alu::groups::accumulator(y, r.a, flags_of(r.f)), r)
 }
 
-pub fn low(y: u8, z: u8, met: bool, k: Kept, r: Registers) -> Registers
+pub(crate) fn low(y: u8, z: u8, met: bool, k: Kept, r: Registers) -> Registers
     requires { ⌜ (y < 8) × (z < 8) ⌝ }
     ensures { λ s. ⌜ s ≡ finish (decode0 y z) met k r ⌝ }
 {

@@ -10,7 +10,7 @@ use crate::registers::with_result;
 use alu::flags::flags_of;
 
 // 40 to 7F. HLT and moves to memory leave the registers.
-pub fn mov(y: u8, z: u8, met: bool, k: Kept, r: Registers) -> Registers
+pub(crate) fn mov(y: u8, z: u8, met: bool, k: Kept, r: Registers) -> Registers
     ensures { λ s. ⌜ s ≡ finish (decode1 y z) met k r ⌝ }
 {
     if y == 6 {
@@ -25,7 +25,7 @@ pub fn mov(y: u8, z: u8, met: bool, k: Kept, r: Registers) -> Registers
 }
 
 // Operation y of A and the byte v.
-pub fn compute(y: u8, v: u8, r: Registers) -> Registers
+pub(crate) fn compute(y: u8, v: u8, r: Registers) -> Registers
     ensures { λ s. ⌜ s ≡ computed y v r ⌝ }
 {
     let flags = flags_of(r.f);
@@ -33,7 +33,7 @@ pub fn compute(y: u8, v: u8, r: Registers) -> Registers
 }
 
 // 80 to BF.
-pub fn arithmetic(y: u8, z: u8, met: bool, k: Kept, r: Registers) -> Registers
+pub(crate) fn arithmetic(y: u8, z: u8, met: bool, k: Kept, r: Registers) -> Registers
     ensures { λ s. ⌜ s ≡ finish (decode2 y z) met k r ⌝ }
 {
     if z == 6 {

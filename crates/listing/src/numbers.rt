@@ -14,7 +14,7 @@ fn digit(d: u8) -> u8
 }
 
 // A byte in two hex digits.
-pub fn byte(out: &mut [u8], at: usize, b: u8) -> usize
+pub(crate) fn byte(out: &mut [u8], at: usize, b: u8) -> usize
     ensures { λ r. ⌜ textOf (now (out .exit)) r ≡ writtenOf (byteOf b) (textOf (now (out .entry)) at) ⌝ }
 {
     let p = put(out, at, digit(b / 16));
@@ -22,7 +22,7 @@ pub fn byte(out: &mut [u8], at: usize, b: u8) -> usize
 }
 
 // A number in decimal.
-pub fn decimal(out: &mut [u8], at: usize, n: usize) -> usize
+pub(crate) fn decimal(out: &mut [u8], at: usize, n: usize) -> usize
     ensures { λ r. ⌜ textOf (now (out .exit)) r ≡ writtenOf (decimalOf n) (textOf (now (out .entry)) at) ⌝ }
 {
     if n < 10 {

@@ -3,7 +3,7 @@ ghost use mathlib.Core.Path.{_≡_};
 ghost use Rattle.listing.specs.Text.{textOf, putOf, writtenOf};
 
 // The character c at a place, and the place after it; where there is no room, nothing and the same place.
-pub fn put(out: &mut [u8], at: usize, c: u8) -> usize
+pub(crate) fn put(out: &mut [u8], at: usize, c: u8) -> usize
     ensures { λ r. ⌜ textOf (now (out .exit)) r ≡ putOf c (textOf (now (out .entry)) at) ⌝ }
 {
     if at < out.len() {
@@ -14,7 +14,7 @@ pub fn put(out: &mut [u8], at: usize, c: u8) -> usize
 }
 
 // The characters of a word.
-pub fn word(out: &mut [u8], at: usize, s: &[u8]) -> usize
+pub(crate) fn word(out: &mut [u8], at: usize, s: &[u8]) -> usize
     ensures { λ r. ⌜ textOf (now (out .exit)) r ≡ writtenOf (now (s .entry)) (textOf (now (out .entry)) at) ⌝ }
 {
     let mut p = at;

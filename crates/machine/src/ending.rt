@@ -44,7 +44,7 @@ impl Machine {
     }
 
     // Nothing is kept any more.
-    pub fn clear(self, next: Position) -> Machine
+    pub(crate) fn clear(self, next: Position) -> Machine
         ensures { λ n. ⌜ n ≡ clearOf next self ⌝ }
     {
         Machine {
@@ -86,7 +86,7 @@ impl Machine {
     }
 
     // The changes of the cycle are made: a hold, or what follows.
-    pub fn hold(self, c: u8, n: u8) -> Machine
+    pub(crate) fn hold(self, c: u8, n: u8) -> Machine
         ensures { λ r. ⌜ r ≡ holdOf c n self ⌝ }
     {
         let lines = self.lines;
@@ -98,7 +98,7 @@ impl Machine {
     }
 
     // The last state of the cycle, with the instruction's changes if the cycle is its last.
-    pub fn end(self, c: u8, n: u8) -> Machine
+    pub(crate) fn end(self, c: u8, n: u8) -> Machine
         ensures { λ r. ⌜ r ≡ endOf c n self ⌝ }
     {
         let kept = self.kept;

@@ -12,12 +12,7 @@ pub other-spec : {M : Type 1} → statement M
 unfolding finish others nth
 other-spec =
     tie.close
-    (tie.spec (search needs)
-    (λ c. simp (← (c .jump-to .ensures), c .before .match .keys1))
-    (λ c. simp (c .match .keys2))
-    (λ c. simp (c .match .keys3))
-    (λ c. simp (c .match .keys4))
-    (λ c. simp (c .match .keys5))
-    (λ c. simp (c .match .keys6))
-    (λ c. simp (c .match .keys7))
+    (tie.spec (search needs) (λ c. simp (← (c .jump-to .ensures), c .before .match .keys1))
+    (λ c. simp (c .match .keys2)) (λ c. simp (c .match .keys3)) (λ c. simp (c .match .keys4))
+    (λ c. simp (c .match .keys5)) (λ c. simp (c .match .keys6)) (λ c. simp (c .match .keys7))
     (λ c. simp (last 7 (c .match .rest) (omega arith))))
