@@ -36,8 +36,8 @@ decimal-length (suc k) n h =
 byte-decimal : (n : ℕ) → n < 256 → length (decimalOf n) ≤ 3
 byte-decimal n h = decimal-length 2 n (omega arith)
 
-word-decimal : (n : ℕ) → n < 18446744073709551616 → length (decimalOf n) ≤ 20
-word-decimal n h = decimal-length 19 n (omega arith)
+usize-decimal : (n : ℕ) → n < 18446744073709551616 → length (decimalOf n) ≤ 20
+usize-decimal n h = decimal-length 19 n (omega arith)
 
 byte-length : (b : ℕ) → length (byteOf b) ≡ 2
 unfolding byteOf
@@ -63,11 +63,11 @@ line-length : (number : ℕ) (row : List ℕ) → number < 18446744073709551616 
 unfolding stateLineOf
 line-length number row h b =
     simp (length-append, byte-length)
-    (omega (arith, word-decimal number h, name-length (getD row 0 0) (b 0), byte-decimal (getD row 1 0) (b 1)))
+    (omega (arith, usize-decimal number h, name-length (getD row 0 0) (b 0), byte-decimal (getD row 1 0) (b 1)))
 
 last-length : (a pc states : ℕ) → states < 18446744073709551616 → length (lastLineOf a pc states) ≤ 41
 unfolding lastLineOf
-last-length a pc states h = simp (length-append, byte-length) (omega (arith, word-decimal states h))
+last-length a pc states h = simp (length-append, byte-length) (omega (arith, usize-decimal states h))
 
 bytes-drop : (n : ℕ) (l : List ℕ) → Bytes l → Bytes (drop n l)
 bytes-drop n l b j = rw getD-drop (b (n + j))

@@ -38,11 +38,11 @@ unfolding writtenOf
 one c t p = p
 
 -- a turn of the loop over the characters of s, and its end
-pub word-turn : (s : List ℕ) (i : ℕ) (t u : Text) → i < length s → u ≡ putOf (getD s i 0) t
+pub write-turn : (s : List ℕ) (i : ℕ) (t u : Text) → i < length s → u ≡ putOf (getD s i 0) t
     → writtenOf (drop (i + 1) s) u ≡ writtenOf (drop i s) t
 unfolding writtenOf
-word-turn s i t u h e = rw (e, add-one, drop-cons s i 0)
+write-turn s i t u h e = rw (e, add-one, drop-cons s i 0)
 
-pub word-end : (s : List ℕ) (i : ℕ) (t : Text) → length s ≤ i → writtenOf (drop i s) t ≡ t
+pub write-end : (s : List ℕ) (i : ℕ) (t : Text) → length s ≤ i → writtenOf (drop i s) t ≡ t
 unfolding writtenOf
-word-end s i t h = rw drop-of-length-le
+write-end s i t h = rw drop-of-length-le

@@ -7,7 +7,7 @@ ghost use Rattle.listing.specs.Listing.{beforeHaltOf, stateLinesOf, List
 use crate::lines::last_line;
 use crate::lines::state_line;
 
-pub mod lines;
+mod lines;
 mod numbers;
 mod text;
 
@@ -19,7 +19,7 @@ fn least(a: usize, b: usize) -> usize
 }
 
 // How many of the states in a trace come before the first halt state. No more are counted than the trace has rows.
-pub fn before_halt(trace: &[u8], states: usize) -> usize
+fn before_halt(trace: &[u8], states: usize) -> usize
     ensures { λ r. ⌜ r ≡ beforeHaltOf (now (trace .entry)) states ⌝ }
 {
     let mut left = least(states, trace.len() / 8);

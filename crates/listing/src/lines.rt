@@ -6,20 +6,20 @@ ghost use Rattle.listing.specs.Lines.{nameOf, stateLineOf, lastLineOf};
 use crate::numbers::byte;
 use crate::numbers::decimal;
 use crate::text::put;
-use crate::text::word;
+use crate::text::write;
 
 // The name of a state code. Codes that the paper does not list stand after a T.
 fn name(out: &mut [u8], at: usize, code: u8) -> usize
     ensures { λ r. ⌜ textOf (now (out .exit)) r ≡ writtenOf (nameOf code) (textOf (now (out .entry)) at) ⌝ }
 {
     if code == 6 {
-        return word(out, at, b"TW");
+        return write(out, at, b"TW");
     }
     if code == 7 {
-        return word(out, at, b"HOLD");
+        return write(out, at, b"HOLD");
     }
     if code == 8 {
-        return word(out, at, b"HALT");
+        return write(out, at, b"HALT");
     }
     let p = put(out, at, b'T');
     decimal(out, p, code as usize)
@@ -34,7 +34,7 @@ fn field(row: &[u8], i: usize) -> u8
 
 // The line of a state, from a place of out on, and the place after it: its number, and the row of the trace that begins with
 // the given bytes. What finds no room in out is left out.
-pub fn state_line(out: &mut [u8], at: usize, number: usize, row: &[u8]) -> usize
+pub(crate) fn state_line(out: &mut [u8], at: usize, number: usize, row: &[u8]) -> usize
     ensures { λ r. ⌜ textOf (now (out .exit)) r ≡ writtenOf (stateLineOf number (now (row .entry))) (textOf (now (out .entry)) at) ⌝ }
 {
     let numbered = decimal(out, at, number);
@@ -51,15 +51,15 @@ pub fn state_line(out: &mut [u8], at: usize, number: usize, row: &[u8]) -> usize
 }
 
 // The last line: A, PC and the states done.
-pub fn last_line(out: &mut [u8], at: usize, a: u8, pc: u16, states: usize) -> usize
+pub(crate) fn last_line(out: &mut [u8], at: usize, a: u8, pc: u16, states: usize) -> usize
     ensures { λ r. ⌜ textOf (now (out .exit)) r ≡ writtenOf (lastLineOf a pc states) (textOf (now (out .entry)) at) ⌝ }
 {
-    let p = word(out, at, b"A ");
+    let p = write(out, at, b"A ");
     let p = byte(out, p, a);
-    let p = word(out, p, b" PC ");
+    let p = write(out, p, b" PC ");
     let p = byte(out, p, (pc / 256) as u8);
     let p = byte(out, p, (pc % 256) as u8);
-    let p = word(out, p, b" STATES ");
+    let p = write(out, p, b" STATES ");
     let p = decimal(out, p, states);
     put(out, p, b'\n')
 }

@@ -13,8 +13,8 @@ pub(crate) fn put(out: &mut [u8], at: usize, c: u8) -> usize
     at
 }
 
-// The characters of a word.
-pub(crate) fn word(out: &mut [u8], at: usize, s: &[u8]) -> usize
+// The characters s, one after the other.
+pub(crate) fn write(out: &mut [u8], at: usize, s: &[u8]) -> usize
     ensures { λ r. ⌜ textOf (now (out .exit)) r ≡ writtenOf (now (s .entry)) (textOf (now (out .entry)) at) ⌝ }
 {
     let mut p = at;

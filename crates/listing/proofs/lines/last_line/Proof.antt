@@ -17,10 +17,10 @@ returns c =
     let second = high .before .before .before .before in
     let a = second .before .before .before .before .before in
     let first = a .before .before .before .before in
-    let given = both _ _ _ (first .word .ensures) (a .byte .ensures) in
-    let half = both _ _ _ (both _ _ _ given (second .word2 .ensures)) (high .byte2 .ensures) in
+    let given = both _ _ _ (first .write .ensures) (a .byte .ensures) in
+    let half = both _ _ _ (both _ _ _ given (second .write2 .ensures)) (high .byte2 .ensures) in
     let whole = both _ _ _ half (low .byte3 .ensures) in
-    let counted = both _ _ _ (both _ _ _ whole (third .word3 .ensures)) (count .decimal .ensures) in
+    let counted = both _ _ _ (both _ _ _ whole (third .write3 .ensures)) (count .decimal .ensures) in
     both _ _ _ counted (one _ _ (feed .put .ensures))
 
 pub last-line-spec : {M : Type 1} → statement M

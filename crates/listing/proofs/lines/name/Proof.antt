@@ -9,21 +9,21 @@ use Rattle.listing.proofs.lines.name.Tie as tie
 
 returns : tie.Need-returns
 unfolding nameOf
-returns c = simp (eq-eqb _ 6 (c .before .before .before .before .before .if1 .taken), c .before .before .word .ensures)
+returns c = simp (eq-eqb _ 6 (c .before .before .before .before .before .if1 .taken), c .before .before .write .ensures)
 
 returns-2 : tie.Need-returns-2
 unfolding nameOf
 returns-2 c =
-    let word = c .before .before in
-    let test = word .before .before .before in
-    simp (ne-eqb _ 6 (test .before .if1 .left), eq-eqb _ 7 (test .if2 .taken), word .word2 .ensures)
+    let write = c .before .before in
+    let test = write .before .before .before in
+    simp (ne-eqb _ 6 (test .before .if1 .left), eq-eqb _ 7 (test .if2 .taken), write .write2 .ensures)
 
 returns-3 : tie.Need-returns-3
 unfolding nameOf
 returns-3 c =
-    let word = c .before .before in
-    let test = word .before .before .before in
-    simp (ne-eqb _ 6 (test .before .before .if1 .left), ne-eqb _ 7 (test .before .if2 .left), eq-eqb _ 8 (test .if3 .taken), word .word3 .ensures)
+    let write = c .before .before in
+    let test = write .before .before .before in
+    simp (ne-eqb _ 6 (test .before .before .if1 .left), ne-eqb _ 7 (test .before .if2 .left), eq-eqb _ 8 (test .if3 .taken), write .write3 .ensures)
 
 returns-4 : tie.Need-returns-4
 unfolding nameOf

@@ -1,4 +1,4 @@
--- `listing::text::word` meets its contract. The loop keeps the whole text (Written, `word-turn`); the measure is the characters
+-- `listing::text::write` meets its contract. The loop keeps the whole text (Written, `write-turn`); the measure is the characters
 -- that are left. Assumes nothing.
 use Prim.Native.Nat.{_-_, _≤_}
 use mathlib.Core.Path.{_≡_, refl, sym, _∙_}
@@ -6,9 +6,9 @@ use native.Mathlib.Omega.{arith}
 use borrow.Author.Needs.{needs}
 use lib.ListN.{length, drop}
 use Rattle.listing.specs.Text.{textOf, writtenOf}
-use Rattle.listing.proofs.Written.{word-turn, word-end}
-use Rattle.listing.proofs.text.word.Statement.{statement}
-use Rattle.listing.proofs.text.word.Tie as tie
+use Rattle.listing.proofs.Written.{write-turn, write-end}
+use Rattle.listing.proofs.text.write.Statement.{statement}
+use Rattle.listing.proofs.text.write.Tie as tie
 
 abbrev Inv-loop : tie.InvT-loop
 Inv-loop out₀ at s p₀ i₀ out p i =
@@ -24,13 +24,13 @@ loop-again : tie.Need-loop-again Inv-loop μ-loop
 loop-again c =
     let inv = c .before .before .before .before .before .before .loop .inv in
     let some = c .before .before .before .before .before .loop-test .taken in
-    (search needs, c .before .before .put .kept .0 ∙ inv .1, word-turn _ _ _ _ some (c .before .before .put .ensures) ∙ inv .2)
+    (search needs, c .before .before .put .kept .0 ∙ inv .1, write-turn _ _ _ _ some (c .before .before .put .ensures) ∙ inv .2)
 
 returns : tie.Need-returns Inv-loop μ-loop
-returns c = sym (word-end _ _ _ (c .loop-test .left)) ∙ c .before .loop .inv .2
+returns c = sym (write-end _ _ _ (c .loop-test .left)) ∙ c .before .loop .inv .2
 
-pub word-spec : {M : Type 1} → statement M
-word-spec =
+pub write-spec : {M : Type 1} → statement M
+write-spec =
     tie.close
     (tie.spec Inv-loop μ-loop loop-holds (search needs) (search needs) (search needs) (search needs) loop-again
     (search needs) returns)
