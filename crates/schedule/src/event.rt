@@ -12,7 +12,7 @@ fn wide(x: u8) -> u32
 }
 
 // The state number of event i, low byte first.
-pub fn state_number(s: &[u8], i: usize) -> u32
+pub(crate) fn state_number(s: &[u8], i: usize) -> u32
     requires { ⌜ 6 * i + 6 ≤ length (now s) ⌝ }
     ensures { λ r. ⌜ r ≡ stateNumberOf (now (s .entry)) i ⌝ }
 {
@@ -21,7 +21,7 @@ pub fn state_number(s: &[u8], i: usize) -> u32
 }
 
 // Whether an event may have this line and value.
-pub fn listed(line: u8, value: u8) -> bool
+pub(crate) fn listed(line: u8, value: u8) -> bool
     ensures { λ r. ⌜ r ≡ listedOf line value ⌝ }
 {
     ((line < 2) & (value < 2)) | ((line == 2) & (value < 9))

@@ -1,4 +1,4 @@
 // The schedule of events: whether it is in order, and the levels at a state.
-pub mod event;
+mod event;
 pub mod levels;
 pub mod order;
