@@ -45,7 +45,7 @@ pub fn keep(c: u8, v: u8, k: Kept) -> Kept
 }
 
 // WZ, the address that was read, low byte first.
-pub fn wz(k: Kept) -> u16
+pub(crate) fn wz(k: Kept) -> u16
     ensures { λ v. ⌜ v ≡ wzOf k ⌝ }
 {
     (k.b2 as u16) * 256 + (k.b1 as u16)

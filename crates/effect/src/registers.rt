@@ -21,7 +21,7 @@ pub struct Registers {
 }
 
 // The register n, of B C D E H L M A; 0 for M.
-pub fn reg(n: u8, r: Registers) -> u8
+pub(crate) fn reg(n: u8, r: Registers) -> u8
     ensures { λ v. ⌜ v ≡ regOf n r ⌝ }
 {
     let all = [r.b, r.c, r.d, r.e, r.h, r.l, 0, r.a];
@@ -30,7 +30,7 @@ pub fn reg(n: u8, r: Registers) -> u8
 }
 
 // The registers with v in the register n; for M they stay.
-pub fn with_reg(n: u8, v: u8, r: Registers) -> Registers
+pub(crate) fn with_reg(n: u8, v: u8, r: Registers) -> Registers
     ensures { λ s. ⌜ s ≡ withReg n v r ⌝ }
 {
     let mut all = [r.b, r.c, r.d, r.e, r.h, r.l, 0, r.a];
@@ -49,7 +49,7 @@ pub fn with_reg(n: u8, v: u8, r: Registers) -> Registers
 }
 
 // The registers with a result in A, and its flags.
-pub fn with_result(x: Flagged, r: Registers) -> Registers
+pub(crate) fn with_result(x: Flagged, r: Registers) -> Registers
     ensures { λ s. ⌜ s ≡ withResult x r ⌝ }
 {
     let flags = x.flags;
@@ -62,7 +62,7 @@ pub fn with_result(x: Flagged, r: Registers) -> Registers
 }
 
 // The registers with other flags.
-pub fn with_flags(flags: Flags, r: Registers) -> Registers
+pub(crate) fn with_flags(flags: Flags, r: Registers) -> Registers
     ensures { λ s. ⌜ s ≡ withFlags flags r ⌝ }
 {
     let f = alu::flags::flag_byte(flags);
@@ -84,7 +84,7 @@ pub fn pair(p: u8, r: Registers) -> u16
 }
 
 // The registers with v in the pair p.
-pub fn with_pair(p: u8, v: u16, r: Registers) -> Registers
+pub(crate) fn with_pair(p: u8, v: u16, r: Registers) -> Registers
     ensures { λ s. ⌜ s ≡ withPair p v r ⌝ }
 {
     let high = (v / 256) as u8;
@@ -110,7 +110,7 @@ pub fn with_pair(p: u8, v: u16, r: Registers) -> Registers
 }
 
 // POP: the registers with two bytes of the stack in the pair p, of BC DE HL PSW, and SP past them.
-pub fn pop_pair(p: u8, high: u8, low: u8, r: Registers) -> Registers
+pub(crate) fn pop_pair(p: u8, high: u8, low: u8, r: Registers) -> Registers
     ensures { λ s. ⌜ s ≡ popPair p high low r ⌝ }
 {
     let sp = alu::words::up(r.sp, 2);
@@ -146,7 +146,7 @@ pub fn pop_pair(p: u8, high: u8, low: u8, r: Registers) -> Registers
 }
 
 // The bytes of the pair p that PUSH writes, of BC DE HL PSW.
-pub fn pair_high(p: u8, r: Registers) -> u8
+pub(crate) fn pair_high(p: u8, r: Registers) -> u8
     ensures { λ v. ⌜ v ≡ pairHighOf p r ⌝ }
 {
     let all = [r.b, r.d, r.h, r.a];
@@ -154,7 +154,7 @@ pub fn pair_high(p: u8, r: Registers) -> u8
     all[i]
 }
 
-pub fn pair_low(p: u8, r: Registers) -> u8
+pub(crate) fn pair_low(p: u8, r: Registers) -> u8
     ensures { λ v. ⌜ v ≡ pairLowOf p r ⌝ }
 {
     let all = [r.c, r.e, r.l, r.f];
