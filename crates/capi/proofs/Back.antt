@@ -12,17 +12,17 @@ use Rattle.opcodes.specs.declared.cycle.Acknowledge.the-variants.{None, Running
 use Rattle.machine.specs.declared.record.Position.{Position}
 use Rattle.machine.specs.declared.record.Position.the-variants.{Fetch, Later, Wait, Hold, Halt, Stop}
 use Rattle.machine.specs.declared.record.Machine.{Machine}
-use Rattle.machine.specs.Record.{coldOf, withRegs}
+use Rattle.machine.specs.Record.{coldOf, withRegs, nextNumber}
 use Rattle.machine.specs.Well.{fixedOf, wellOf}
 use Rattle.schedule.specs.Events.{all}
 use Rattle.saved.specs.Header.{headerWith}
 use Rattle.saved.proofs.Back.{bit-range, registers-back, lines-back, clock-back}
-use Rattle.capi.specs.Flat.{nextByte, cycleByte, stateByte, acknowledgeByte, insideBytes, flatOf, recordWith}
+use Rattle.capi.specs.Flat.{cycleByte, stateByte, acknowledgeByte, insideBytes, flatOf, recordWith}
 use Rattle.capi.specs.Handed.{positionIn, acknowledgeIn, keptIn, recordedOf, placeFits, formedOf, brokenOf, handedOf}
 
 -- what comes next and the acknowledge, from their bytes
-position-back : (p : Position) → positionIn (nextByte p) (cycleByte p) (stateByte p) ≡ p
-unfolding positionIn nextByte cycleByte stateByte
+position-back : (p : Position) → positionIn (nextNumber p) (cycleByte p) (stateByte p) ≡ p
+unfolding positionIn cycleByte stateByte
 position-back Fetch = refl
 position-back (Later c s) = refl
 position-back (Wait c) = refl
@@ -39,7 +39,7 @@ acknowledge-back Halted = refl
 pub read-flat : (m : Machine) → recordedOf (flatOf m) ≡ m
 unfolding recordedOf flatOf keptIn headerWith
 read-flat m =
-    let what = nextByte (m .next) in
+    let what = nextNumber (m .next) in
     λ i.
     record {
       regs = registers-back what m (insideBytes m) i;
@@ -59,8 +59,8 @@ read-flat m =
     }
 
 -- each byte that is written is inside its range
-place-range : (p : Position) → (leb (nextByte p) 5 && placeFits (nextByte p) (cycleByte p) (stateByte p)) ≡ true
-unfolding nextByte cycleByte stateByte placeFits
+place-range : (p : Position) → (leb (nextNumber p) 5 && placeFits (nextNumber p) (cycleByte p) (stateByte p)) ≡ true
+unfolding cycleByte stateByte placeFits
 place-range Fetch = refl
 place-range (Later c s) = refl
 place-range (Wait c) = refl

@@ -10,7 +10,7 @@ use lib.ListN.{length}
 use borrow.Author.Tests.{eqb-true}
 use Rattle.laws.specs.Choice.{pick}
 use Rattle.machine.specs.declared.record.Machine.{Machine}
-use Rattle.machine.specs.Record.{coldOf}
+use Rattle.machine.specs.Record.{coldOf, stoppedOf}
 use Rattle.machine.specs.Well.{wellOf}
 use Rattle.machine.specs.Step.{stepOf}
 use Rattle.run.specs.declared.answer.Refusal.{Refusal}
@@ -20,7 +20,7 @@ use Rattle.run.specs.declared.answer.Verdict.the-variants.{Good, Refused}
 use Rattle.run.specs.declared.answer.Ran.{Ran}
 use Rattle.run.specs.declared.answer.Answer.the-variants.{Done, Stopped}
 use Rattle.run.specs.Check.{andThen, unless, scheduleVerdict, statesVerdict, checkOf}
-use Rattle.run.specs.Run.{World, stoppedOf, runOf}
+use Rattle.run.specs.Run.{World, runOf}
 use Rattle.run.specs.Outcome.{startOf, verdictOf, leftBy, leftOf, ranIn, answeredOf, answerBy, answerOf}
 use Rattle.capi.specs.Flat.{recordWith}
 use Rattle.capi.specs.Handed.{handedOf}

@@ -7,13 +7,14 @@ use native.Mathlib.Omega.{arith}
 use Rattle.laws.specs.Choice.{pick}
 use Rattle.laws.proofs.Tests.{pick-both}
 use Rattle.machine.specs.declared.record.Machine.{Machine}
+use Rattle.machine.specs.Record.{stoppedOf}
 use Rattle.run.specs.declared.answer.Verdict.{Verdict}
 use Rattle.run.specs.declared.answer.Verdict.the-variants.{Good, Refused}
 use Rattle.run.specs.declared.answer.Ran.{Ran}
 use Rattle.run.specs.declared.answer.Answer.{Answer}
 use Rattle.run.specs.declared.answer.Answer.the-variants.{Done, Stopped}
 use Rattle.run.specs.Answer.{ranOf}
-use Rattle.run.specs.Run.{World, stoppedOf, stateOf, runOf}
+use Rattle.run.specs.Run.{World, stateOf, runOf}
 use Rattle.run.specs.Outcome.{startOf, verdictOf, ranIn, answeredOf, answerBy, answerOf, Outcome}
 use Rattle.run.proofs.Laws.{nextOf}
 use Rattle.capi.specs.Handed.{handedOf}

@@ -1,28 +1,14 @@
 -- One state of a machine in a record. Assumes nothing.
 use Prim.Native.Nat.{ℕ}
-use mathlib.Core.Path.{_≡_, refl, ap, _∙_}
+use mathlib.Core.Path.{_≡_, ap, _∙_}
 use mathlib.Core.List.{List}
-use lib.Dec.{eqb}
 use borrow.Author.Tests.{eq-eqb, ne-eqb}
-use Rattle.machine.specs.declared.record.Position.{Position}
-use Rattle.machine.specs.declared.record.Position.the-variants.{Fetch, Later, Wait, Hold, Halt, Stop}
 use Rattle.machine.specs.declared.record.Machine.{Machine}
 use Rattle.machine.specs.Step.{stepOf}
-use Rattle.run.specs.Run.{stoppedOf}
-use Rattle.capi.specs.Flat.{nextByte, recordWith}
+use Rattle.capi.specs.Flat.{recordWith}
 use Rattle.capi.specs.Handed.{handedOf}
 use Rattle.capi.specs.Numbers.{stepNumber}
 use Rattle.capi.specs.Calls.{StepCall}
-
--- the byte of what comes next tells a stop
-pub stop-byte : (p : Position) → stoppedOf p ≡ eqb (nextByte p) 2
-unfolding stoppedOf nextByte
-stop-byte Fetch = refl
-stop-byte (Later c s) = refl
-stop-byte (Wait c) = refl
-stop-byte (Hold c) = refl
-stop-byte Halt = refl
-stop-byte Stop = refl
 
 module _ (z : List ℕ) (v r : ℕ) (m : Machine) (handed : m ≡ handedOf z) (number : r ≡ stepNumber m) where
   pub step-done : (n : Machine) (z' : List ℕ) → r ≡ 0 → n ≡ stepOf v m → z' ≡ recordWith z n → StepCall z v r z'

@@ -11,17 +11,10 @@ use Rattle.effect.specs.declared.kept.Kept.{Kept}
 use Rattle.machine.specs.declared.record.Position.{Position}
 use Rattle.machine.specs.declared.record.Position.the-variants.{Fetch, Later, Wait, Hold, Halt, Stop}
 use Rattle.machine.specs.declared.record.Machine.{Machine}
+use Rattle.machine.specs.Record.{nextNumber}
 use Rattle.saved.specs.Header.{headerWith}
 
--- what comes next, its cycle and its state, 0 where none is named
-unfoldable pub nextByte : Position → ℕ
-nextByte Fetch = 0
-nextByte (Later c s) = 3
-nextByte (Wait c) = 4
-nextByte (Hold c) = 5
-nextByte Halt = 1
-nextByte Stop = 2
-
+-- the cycle and the state of what comes next, 0 where none is named
 unfoldable pub cycleByte : Position → ℕ
 cycleByte Fetch = 0
 cycleByte (Later c s) = c
@@ -59,7 +52,7 @@ insideBytes m = cycleByte (m .next) ∷ stateByte (m .next) ∷ (keptBytes (m .k
 
 -- the 64 bytes of the machine m
 unfoldable pub flatOf : Machine → List ℕ
-flatOf m = headerWith (nextByte (m .next)) m ++ insideBytes m
+flatOf m = headerWith (nextNumber (m .next)) m ++ insideBytes m
 
 -- the record z with the machine m in it: a list that is no record stays
 unfoldable pub recordWith : List ℕ → Machine → List ℕ

@@ -6,10 +6,10 @@ use Rattle.laws.specs.Choice.{pick}
 use Rattle.machine.specs.declared.record.Machine.{Machine}
 use Rattle.machine.specs.declared.request.Request.{Request}
 use Rattle.machine.specs.declared.request.Request.the-variants.{Nothing, Read, Write, Input, Output, Restart}
+use Rattle.machine.specs.Record.{stoppedOf}
 use Rattle.machine.specs.Well.{wellOf}
 use Rattle.run.specs.declared.answer.Answer.{Answer}
 use Rattle.run.specs.Answer.{numberOf, ranOf}
-use Rattle.run.specs.Run.{stoppedOf}
 
 -- a request: which it is, times 2^24, the byte, times 2^16, and the address or the port
 unfoldable pub requestNumber : Request → ℕ

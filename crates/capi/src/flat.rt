@@ -1,26 +1,13 @@
 // A machine as the 64 bytes of a record.
 ghost use mathlib.Core.Path.{_≡_};
 ghost use Rattle.capi.specs.Calls.{recordBy};
-ghost use Rattle.capi.specs.Flat.{nextByte, cycleByte, stateByte, acknowledgeByte, flatOf, recordWith};
+ghost use Rattle.capi.specs.Flat.{cycleByte, stateByte, acknowledgeByte, flatOf, recordWith};
 use machine::record::Machine;
 use machine::record::Position;
+use machine::record::next_number;
 use opcodes::cycle::Acknowledge;
 use run::answer::Answer;
 use saved::header::header_with;
-
-// What comes next: 0 fetch, 1 halt state, 2 stop, 3 later state, 4 wait, 5 hold.
-pub(crate) fn next_byte(p: Position) -> u8
-    ensures { λ v. ⌜ v ≡ nextByte p ⌝ }
-{
-    match p {
-        Position::Fetch => 0,
-        Position::Later { cycle: _, state: _ } => 3,
-        Position::Wait { cycle: _ } => 4,
-        Position::Hold { cycle: _ } => 5,
-        Position::Halt => 1,
-        Position::Stop => 2,
-    }
-}
 
 // The cycle that comes next or goes on, 0 where none is named.
 fn cycle_byte(p: Position) -> u8
@@ -68,7 +55,7 @@ fn flat(m: Machine) -> [u8; 64]
     let kept = m.kept;
     let next = m.next;
     let ack = kept.ack;
-    let first = header_with(next_byte(next), m);
+    let first = header_with(next_number(next), m);
     let mut h = [0; 64];
     bytes::copy(&first, &mut h);
     h[24] = cycle_byte(next);

@@ -3,8 +3,8 @@ ghost use mathlib.Core.Path.{_≡_};
 ghost use Prim.Native.Nat.{_≤_};
 ghost use Rattle.run.specs.Answer.{ranOf};
 ghost use Rattle.capi.specs.Numbers.{requestNumber, stepNumber, runNumber};
-use crate::flat::next_byte;
 use machine::record::Machine;
+use machine::record::stopped;
 use machine::request::Request;
 use run::answer::Answer;
 use run::answer::number;
@@ -47,7 +47,7 @@ pub(crate) fn step_number(m: Machine) -> u8
     if m.clock == 4294967295 {
         return CLOCK_RANGE;
     }
-    if next_byte(next) == 2 {
+    if stopped(next) {
         return STOPPED;
     }
     DONE

@@ -8,6 +8,7 @@ use lib.Dec.{T, eqb, leb}
 use lib.ListN.{length}
 use Rattle.laws.specs.Choice.{pick}
 use Rattle.laws.proofs.Tests.{true→T}
+use Rattle.machine.specs.Record.{stoppedOf}
 use Rattle.machine.specs.Well.{wellOf}
 use Rattle.run.specs.declared.answer.Refusal.{Refusal}
 use Rattle.run.specs.declared.answer.Refusal.the-variants.{MemorySize, PortSize, TooManyStates, TraceShort, IllFormed}
@@ -18,7 +19,7 @@ use Rattle.run.specs.declared.answer.Ran.{Ran}
 use Rattle.run.specs.declared.answer.Answer.{Answer}
 use Rattle.run.specs.declared.answer.Answer.the-variants.{Done, Stopped, Refused}
 use Rattle.run.specs.Check.{andThen, unless, scheduleVerdict, statesVerdict, checkOf}
-use Rattle.run.specs.Run.{World, stoppedOf, runOf}
+use Rattle.run.specs.Run.{World, runOf}
 use Rattle.run.specs.Outcome.{verdictOf, ranIn, answeredOf, answerBy, answerOf}
 use Rattle.run.proofs.Passed.{check-fit}
 

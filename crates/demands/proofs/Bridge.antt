@@ -2,21 +2,20 @@
 -- Assumes nothing.
 use Prim.Native.Nat.{ℕ, zero, suc, _+_, _-_, _/_, _≤_, _<_}
 use mathlib.Core.Path.{_≡_, refl, sym, ap, ap₂, _∙_}
-use mathlib.Core.Bool.{Bool, true, false, false≢true}
+use mathlib.Core.Bool.{Bool, true, false}
 use mathlib.Core.List.{List}
 use native.Mathlib.Omega.{arith}
 use lib.ListN.{length}
 use Rattle.laws.specs.Choice.{pick}
 use Rattle.machine.specs.declared.record.Lines.{Lines}
 use Rattle.machine.specs.declared.record.Position.{Position}
-use Rattle.machine.specs.declared.record.Position.the-variants.{Fetch, Later, Wait, Hold, Halt, Stop}
 use Rattle.machine.specs.declared.record.Machine.{Machine}
-use Rattle.machine.specs.Record.{withLines, withClock, tickedOf}
+use Rattle.machine.specs.Record.{withLines, withClock, stoppedOf, tickedOf}
 use Rattle.machine.specs.Step.{movedOf, stepOf}
 use Rattle.machine.proofs.Levels.{levels-kept}
 use Rattle.schedule.specs.Levels.{levelsAt}
 use Rattle.run.specs.State.{asked, heard, memoryAfter, outputsAfter}
-use Rattle.run.specs.Run.{World, stoppedOf, eventfulOf, stateOf, runOf}
+use Rattle.run.specs.Run.{World, eventfulOf, stateOf, runOf}
 use Rattle.demands.specs.Outside.{Outside, levelsFrom, outsideOf}
 use Rattle.demands.specs.Board.{Board, boardOf}
 use Rattle.demands.proofs.Steps.{driven, stateFrom, step, run}
@@ -24,13 +23,8 @@ use Rattle.demands.proofs.Lines.{ready-only, hold-only, event-int}
 
 -- the clock of a machine that has not stopped counts one state
 ticked : (p : Position) (t : ℕ) → stoppedOf p ≡ false → t < 4294967295 → tickedOf p t ≡ t + 1
-unfolding tickedOf stoppedOf
-ticked Fetch t f h = omega arith
-ticked (Later c s) t f h = omega arith
-ticked (Wait c) t f h = omega arith
-ticked (Hold c) t f h = omega arith
-ticked Halt t f h = omega arith
-ticked Stop t f h = absurd (false≢true (sym f))
+unfolding tickedOf
+ticked p t f h = rw f (omega arith)
 
 module _ (s inputs : List ℕ) (m₀ : Machine) where
   abbrev E : Outside

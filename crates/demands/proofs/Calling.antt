@@ -7,9 +7,9 @@ use native.Mathlib.Omega.{arith}
 use lib.Dec.{T}
 use Rattle.laws.specs.Choice.{pick}
 use Rattle.machine.specs.Well.{wellOf}
-use Rattle.machine.specs.Record.{withLines, withClock}
+use Rattle.machine.specs.Record.{withLines, withClock, stoppedOf}
 use Rattle.run.specs.declared.answer.Ran.{Ran}
-use Rattle.run.specs.Run.{World, stoppedOf, runOf}
+use Rattle.run.specs.Run.{World, runOf}
 use Rattle.run.specs.Outcome.{leftOf}
 use Rattle.run.proofs.Laws.{run-plus, good-left}
 use Rattle.run.proofs.Calls.{run-same}

@@ -6,10 +6,10 @@ use mathlib.Core.List.{List, [], _∷_}
 use lib.ListN.{length, length-set, length-replicate, replicate}
 use Rattle.effect.specs.declared.registers.Registers.{Registers}
 use Rattle.machine.specs.declared.record.Machine.{Machine}
-use Rattle.machine.specs.Record.{coldOf, withRegs}
+use Rattle.machine.specs.Record.{coldOf, withRegs, stoppedOf}
 use Rattle.run.specs.declared.answer.Verdict.{Verdict}
 use Rattle.run.specs.declared.answer.Verdict.the-variants as verdict
-use Rattle.run.specs.Run.{World, stoppedOf, runOf}
+use Rattle.run.specs.Run.{World, runOf}
 use Rattle.run.specs.Check.{checkOf}
 use Rattle.run.specs.Outcome.{startOf, verdictOf, answeredOf}
 use Rattle.run.proofs.Laws.{good-left, good-answer}

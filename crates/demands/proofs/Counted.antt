@@ -10,8 +10,9 @@ use Rattle.laws.specs.Choice.{pick}
 use Rattle.machine.specs.declared.record.Position.{Position}
 use Rattle.machine.specs.declared.record.Position.the-variants.{Fetch, Later, Wait, Hold, Halt, Stop}
 use Rattle.machine.specs.declared.row.Row.{Row}
+use Rattle.machine.specs.Record.{stoppedOf}
 use Rattle.run.specs.State.{putRow}
-use Rattle.run.specs.Run.{World, stoppedOf, stateOf, runOf}
+use Rattle.run.specs.Run.{World, stateOf, runOf}
 use Rattle.run.proofs.Laws.{nextOf}
 
 pub stop-is : (p : Position) → stoppedOf p ≡ true → p ≡ Stop

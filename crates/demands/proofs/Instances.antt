@@ -6,10 +6,10 @@ use mathlib.Core.Bool.{true, false}
 use mathlib.Core.List.{List, [], _∷_}
 use native.Mathlib.Omega.{arith}
 use lib.ListN.{replicate}
-use Rattle.machine.specs.Record.{coldOf}
+use Rattle.machine.specs.Record.{coldOf, stoppedOf}
 use Rattle.run.specs.declared.answer.Verdict.the-variants.{Good}
 use Rattle.run.specs.declared.answer.Answer.the-variants.{Done}
-use Rattle.run.specs.Run.{World, stoppedOf, runOf}
+use Rattle.run.specs.Run.{World, runOf}
 use Rattle.run.specs.Check.{checkOf}
 use Rattle.run.specs.Outcome.{verdictOf, leftOf, ranIn, answeredOf, answerOf}
 use Rattle.run.proofs.Laws.{good-left, good-answer}

@@ -6,7 +6,7 @@ use mathlib.Core.Logic.{⊎-elim}
 use native.Mathlib.Omega.{arith}
 use Rattle.machine.specs.declared.record.Position.{Position}
 use Rattle.machine.specs.declared.record.Position.the-variants.{Fetch, Later, Wait, Hold, Halt, Stop}
-use Rattle.run.specs.Run.{stoppedOf}
+use Rattle.machine.specs.Record.{stoppedOf}
 use Rattle.demands.specs.Begins.{Acknowledges}
 use Rattle.demands.specs.Outside.{Outside, Moment, did}
 use Rattle.demands.specs.Board.{Board, momentOf}

@@ -14,14 +14,14 @@ use Rattle.effect.specs.Pairs.{pairOf, withPair, popPair, pairHighOf, pairLowOf
 use Rattle.effect.specs.Kept.{keptFor, keepOf, wzOf}
 use Rattle.effect.specs.Bus.{addressOf, givenOf}
 use Rattle.effect.specs.Effect.{counted, dadPair, accumulated, computed, returned, jumped, called, finish, effectOf}
-use Rattle.machine.specs.Record.{coldOf, withLines}
+use Rattle.machine.specs.Record.{coldOf, withLines, stoppedOf}
 use Rattle.machine.specs.Step.{stepping}
 use Rattle.machine.specs.Row.{showing}
 use Rattle.machine.specs.Well as well
 use Rattle.schedule.specs.Events as events
 use Rattle.schedule.specs.Levels.{actOf, onceOf, levelsAt}
 use Rattle.run.specs.State.{byteOn, memoryAfter, outputsAfter, putRow}
-use Rattle.run.specs.Run.{stoppedOf, eventfulOf, stateOf, runOf}
+use Rattle.run.specs.Run.{eventfulOf, stateOf, runOf}
 use Rattle.run.specs.Check.{scheduleVerdict}
 use Rattle.run.specs.Check as check
 use Rattle.run.specs.Outcome.{verdictOf, leftOf, answeredOf, answerOf}

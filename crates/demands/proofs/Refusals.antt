@@ -9,13 +9,14 @@ use native.Mathlib.Nat.{eq-or-lt-of-le}
 use Rattle.laws.specs.Choice.{pick}
 use Rattle.laws.proofs.Order.{lt-or-le}
 use Rattle.machine.specs.declared.record.Position.the-variants.{Stop}
+use Rattle.machine.specs.Record.{stoppedOf}
 use Rattle.run.specs.declared.answer.Refusal.{Refusal}
 use Rattle.run.specs.declared.answer.Verdict.{Verdict}
 use Rattle.run.specs.declared.answer.Verdict.the-variants as verdict
 use Rattle.run.specs.declared.answer.Answer.{Answer}
 use Rattle.run.specs.declared.answer.Answer.the-variants.{Done, Stopped, Refused}
 use Rattle.run.specs.Answer.{refusalNumber}
-use Rattle.run.specs.Run.{World, stoppedOf, runOf}
+use Rattle.run.specs.Run.{World, runOf}
 use Rattle.run.specs.Outcome.{verdictOf, leftBy, leftOf, ranIn, answeredOf, answerBy, answerOf}
 use Rattle.run.proofs.Laws.{run-stopped}
 use Rattle.run.proofs.Calls.{run-unique}

@@ -5,7 +5,7 @@ use mathlib.Core.Bool.{true, false, true≢false}
 use mathlib.Core.Logic.{_⊎_, inl, inr, ⊎-elim}
 use native.Mathlib.Omega.{arith}
 use Rattle.machine.specs.declared.record.Position.the-variants.{Fetch}
-use Rattle.run.specs.Run.{stoppedOf}
+use Rattle.machine.specs.Record.{stoppedOf}
 use Rattle.demands.specs.Outside.{Outside, Moment}
 use Rattle.demands.proofs.Work.{Work, here, workOf}
 use Rattle.demands.specs.Board.{Board, momentOf}

@@ -6,7 +6,7 @@ use mathlib.Core.Logic.{⊎-elim}
 use native.Mathlib.Omega.{arith}
 use native.Mathlib.Nat.{zero-add, suc-add}
 use Rattle.laws.specs.Choice.{pick}
-use Rattle.run.specs.Run.{stoppedOf}
+use Rattle.machine.specs.Record.{stoppedOf}
 use Rattle.demands.specs.Outside.{Outside, didTimes}
 use Rattle.demands.proofs.Work.{workOf}
 use Rattle.demands.specs.States.{restartStates}

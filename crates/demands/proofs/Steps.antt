@@ -13,14 +13,13 @@ use Rattle.effect.specs.Effect.{effectOf}
 use Rattle.machine.specs.declared.record.Position.{Position}
 use Rattle.machine.specs.declared.record.Position.the-variants.{Fetch, Later, Hold, Halt}
 use Rattle.machine.specs.declared.record.Machine.{Machine}
-use Rattle.machine.specs.Record.{withNext, withRegs, withKept, withLines, withClock}
+use Rattle.machine.specs.Record.{withNext, withRegs, withKept, withLines, withClock, stoppedOf}
 use Rattle.machine.specs.Cycle.{afterOf, cyclesOf, cycleOf}
 use Rattle.machine.specs.Ending.{takesOf, acknowledgeOf, clearOf, isHlt, endedOf, followOf, holdOf, endOf}
-use Rattle.machine.specs.Step.{waitOf, secondOf, fetchedOf, onwardOf, tookOf, thirdOf, laterOf, movedOf}
+use Rattle.machine.specs.Step.{waitOf, secondOf, fetchedOf, onwardOf, tookOf, fromThird, laterOf, movedOf}
 use Rattle.machine.specs.Look.{placeOf, standsOf, shownOf, lookAt, lookOf}
 use Rattle.machine.specs.Request.{requestOf}
 use Rattle.run.specs.State.{asked, heard, byteOn, memoryAfter, outputsAfter}
-use Rattle.run.specs.Run.{stoppedOf}
 use Rattle.demands.specs.Outside.{Outside, Moment}
 use Rattle.demands.proofs.Work.{Work, here}
 use Rattle.demands.specs.Board.{Board}
@@ -80,7 +79,7 @@ Done c d t =
 
 -- one name that opens a state
 unfoldable pub opening : ℕ
-unfolding step driven withNext withRegs withKept withLines withClock cycleOf waitOf secondOf fetchedOf onwardOf tookOf thirdOf
+unfolding step driven withNext withRegs withKept withLines withClock cycleOf waitOf secondOf fetchedOf onwardOf tookOf fromThird
     laterOf movedOf placeOf standsOf shownOf lookAt lookOf requestOf byteOn memoryAfter outputsAfter
 opening = 0
 

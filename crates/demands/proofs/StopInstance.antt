@@ -5,10 +5,10 @@ use mathlib.Core.Path.{_≡_, refl, ap, _∙_}
 use mathlib.Core.Bool.{true}
 use mathlib.Core.List.{[], _∷_}
 use lib.ListN.{replicate}
-use Rattle.machine.specs.Record.{coldOf}
+use Rattle.machine.specs.Record.{coldOf, stoppedOf}
 use Rattle.run.specs.declared.answer.Verdict.the-variants.{Good}
 use Rattle.run.specs.declared.answer.Answer.the-variants.{Stopped}
-use Rattle.run.specs.Run.{World, stoppedOf, runOf}
+use Rattle.run.specs.Run.{World, runOf}
 use Rattle.run.specs.Check.{checkOf}
 use Rattle.run.specs.Outcome.{verdictOf, ranIn, answeredOf, answerOf}
 use Rattle.run.proofs.Laws.{good-answer}

@@ -6,9 +6,10 @@ use mathlib.Core.List.{List, []}
 use native.Mathlib.Omega.{arith}
 use lib.Dec.{T}
 use Rattle.laws.specs.Choice.{pick}
+use Rattle.machine.specs.Record.{stoppedOf}
 use Rattle.machine.specs.Well.{wellOf}
 use Rattle.run.specs.declared.answer.Ran.{Ran}
-use Rattle.run.specs.Run.{World, stoppedOf, eventfulOf, stateOf, runOf}
+use Rattle.run.specs.Run.{World, eventfulOf, stateOf, runOf}
 use Rattle.run.proofs.Laws.{run-plus}
 use Rattle.demands.specs.Outside.{outsideOf}
 use Rattle.demands.specs.Board.{Board, boardOf}

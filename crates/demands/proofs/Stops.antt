@@ -4,7 +4,6 @@ use mathlib.Core.Path.{_≡_, refl, sym, ap, ap₂, _∙_, subst}
 use mathlib.Core.Bool.{Bool, true, false, _&&_, false≢true}
 use mathlib.Core.List.{List}
 use native.Mathlib.Omega.{arith}
-use borrow.Author.Tests.{eqb-true}
 use lib.Dec.{eqb}
 use Rattle.laws.specs.Choice.{pick}
 use Rattle.laws.proofs.Tests.{pick-both}
@@ -15,12 +14,13 @@ use Rattle.machine.specs.declared.record.Position.{Position}
 use Rattle.machine.specs.declared.record.Position.the-variants.{Fetch, Later, Wait, Hold, Halt, Stop}
 use Rattle.machine.specs.declared.record.Machine.{Machine}
 use Rattle.machine.specs.declared.cycle.Cycle.{Cycle}
-use Rattle.machine.specs.Record.{withNext, withRegs, withKept, withClock, withLines}
+use Rattle.machine.specs.Record.{withNext, withRegs, withKept, withClock, withLines, stoppedOf}
 use Rattle.machine.specs.Cycle.{cycleOf}
 use Rattle.machine.specs.Ending.{takesOf, acknowledgeOf, clearOf, isHlt, endedOf, followOf, holds, holdOf, endOf}
-use Rattle.machine.specs.Step.{risenOf, waitOf, secondOf, fetchedOf, onwardOf, tookOf, thirdOf, laterOf, haltedOf, movedOf, stepOf}
+use Rattle.machine.specs.Step.{risenOf, waitOf, secondOf, fetchedOf, onwardOf, tookOf, fromThird, laterOf, haltedOf, movedOf, stepOf}
+use Rattle.machine.proofs.Onward.{fetch-third}
 use Rattle.run.specs.State.{heard}
-use Rattle.run.specs.Run.{World, stoppedOf, eventfulOf, stateOf, runOf}
+use Rattle.run.specs.Run.{World, eventfulOf, stateOf, runOf}
 use Rattle.run.proofs.Laws.{nextOf, run-stopped}
 use Rattle.demands.proofs.Counted.{next-count}
 
@@ -57,6 +57,12 @@ onward-goes : (y : Cycle) (c s : ℕ) (m : Machine) → Goes (onwardOf y c s m)
 unfolding onwardOf withNext stoppedOf
 onward-goes y c s m = pick-both Goes (eqb (y .states) s) _ _ (λ e. end-goes c (y .after) m) (λ e. refl)
 
+third-goes : (y : Cycle) (c s v : ℕ) (m : Machine) → Goes (fromThird y c s v m)
+unfolding fromThird
+third-goes y c s v m =
+    pick-both Goes (eqb s 3) _ _ (λ e. onward-goes y c 3 (tookOf (y .code) c v m))
+    (λ e. pick-both Goes (eqb s 4) _ _ (λ e. onward-goes y c 4 m) (λ e. end-goes c (y .after) m))
+
 -- a state of cycle c that stops is T3 of the first, where the opcode is not defined
 module _ (c s : ℕ) (d : Bool) where
   abbrev Here : Machine → Type 0
@@ -65,17 +71,12 @@ module _ (c s : ℕ) (d : Bool) where
   not-here : (m : Machine) → Goes m → Here m
   not-here m g e = absurd (false≢true (sym g ∙ e))
 
-  fetched-stops : (v : ℕ) (m : Machine) → c ≡ 1 → s ≡ 3 → Here (fetchedOf d v m)
+  fetched-stops : (v : ℕ) (m : Machine) → eqb s 3 && eqb c 1 ≡ true → Here (fetchedOf d v m)
   unfolding fetchedOf withNext clearOf stoppedOf
-  fetched-stops v m p q =
+  fetched-stops v m t =
+      let (q, p) = fetch-third c s t in
       let on = withNext (Later 1 4) (withKept (keepOf 1 v (m .kept)) m) in
       pick-both Here d on (clearOf Stop m) (λ e. not-here on refl) (λ e x. (ap₂ Later p q, e))
-
-  third-stops : (y : Cycle) (v : ℕ) (m : Machine) → s ≡ 3 → Here (thirdOf y c d v m)
-  unfolding thirdOf
-  third-stops y v m q =
-      pick-both Here (eqb c 1) _ _ (λ e. fetched-stops v m (eqb-true c 1 e) q)
-      (λ e. not-here (onwardOf y c 3 (tookOf (y .code) c v m)) (onward-goes y c 3 (tookOf (y .code) c v m)))
 
   later-stops : (y : Cycle) (v : ℕ) (m : Machine) → Here (laterOf y c s d v m)
   unfolding laterOf secondOf withNext stoppedOf
@@ -84,10 +85,8 @@ module _ (c s : ℕ) (d : Bool) where
       pick-both Here (eqb s 1) (withNext (Later c 2) m) _ (λ e. not-here (withNext (Later c 2) m) refl)
       (λ e₁. pick-both Here (eqb s 2) (secondOf (y .code) c m) _
       (λ e. not-here (secondOf (y .code) c m) (wait-goes (waitsOf (y .code)) c up))
-      (λ e₂. pick-both Here (eqb s 3) (thirdOf y c d v m) _ (λ e. third-stops y v m (eqb-true s 3 e))
-      (λ e₃. pick-both Here (eqb s 4) (onwardOf y c 4 m) (endOf c (y .after) m)
-      (λ e. not-here (onwardOf y c 4 m) (onward-goes y c 4 m))
-      (λ e₄. not-here (endOf c (y .after) m) (end-goes c (y .after) m)))))
+      (λ e₂. pick-both Here (eqb s 3 && eqb c 1) (fetchedOf d v m) _ (λ e. fetched-stops v m e)
+      (λ e₃. not-here (fromThird y c s v m) (third-goes y c s v m))))
 
 -- so does a machine at any position
 moved-stops : (p : Position) (v : ℕ) (m : Machine) → stoppedOf p ≡ false → stoppedOf (movedOf p v m .next) ≡ true

@@ -5,7 +5,7 @@ use mathlib.Core.Bool.{true, false}
 use mathlib.Core.List.{List, []}
 use mathlib.Core.Logic.{⊎-elim}
 use native.Mathlib.Omega.{arith}
-use Rattle.run.specs.Run.{stoppedOf}
+use Rattle.machine.specs.Record.{stoppedOf}
 use Rattle.demands.specs.Outside.{Outside, intIn, outsideOf}
 use Rattle.demands.specs.Board.{Board, boardOf}
 use Rattle.demands.specs.Own.{own}

@@ -7,7 +7,8 @@ use mathlib.Core.Logic.{⊎-elim}
 use native.Mathlib.Omega.{arith}
 use lib.ListN.{length}
 use Rattle.laws.specs.Choice.{pick}
-use Rattle.run.specs.Run.{World, stoppedOf, eventfulOf, stateOf, runOf}
+use Rattle.machine.specs.Record.{stoppedOf}
+use Rattle.run.specs.Run.{World, eventfulOf, stateOf, runOf}
 use Rattle.run.proofs.Laws.{run-stopped, good-left}
 use Rattle.demands.specs.Trace.{rowIn, shownBy, TraceShows}
 use Rattle.demands.proofs.Stretches.{bool}

@@ -11,10 +11,10 @@ use Rattle.opcodes.specs.declared.cycle.Acknowledge.the-variants.{None}
 use Rattle.effect.specs.Registers.{withPc}
 use Rattle.effect.specs.Kept.{keptFor}
 use Rattle.machine.specs.declared.record.Position.the-variants.{Fetch}
+use Rattle.machine.specs.Record.{stoppedOf}
 use Rattle.machine.specs.Request.{askedOf}
 use Rattle.machine.specs.Step.{risenOf}
 use Rattle.run.specs.State.{memoryAfter, outputsAfter}
-use Rattle.run.specs.Run.{stoppedOf}
 use Rattle.demands.specs.Outside.{Outside}
 use Rattle.demands.specs.Board.{Board, momentOf}
 use Rattle.demands.specs.Legs.{Tally, tally, plus, statesIn, Trip, stay, go}

@@ -2,7 +2,7 @@
 -- Assumes nothing.
 use Prim.Native.Nat.{ℕ, _+_}
 use mathlib.Core.Path.{_≡_, refl}
-use mathlib.Core.Bool.{Bool}
+use mathlib.Core.Bool.{Bool, _&&_}
 use lib.Dec.{eqb}
 use Rattle.laws.specs.Choice.{pick}
 use Rattle.laws.proofs.Tests.{pick-both}
@@ -17,7 +17,7 @@ use Rattle.machine.specs.declared.record.Machine.{Machine}
 use Rattle.machine.specs.Record.{withNext, withRegs, withKept, withClock}
 use Rattle.machine.specs.Cycle.{cycleOf}
 use Rattle.machine.specs.Ending.{takesOf, acknowledgeOf, clearOf, isHlt, endedOf, followOf, holds, holdOf, endOf}
-use Rattle.machine.specs.Step.{waitOf, secondOf, fetchedOf, onwardOf, tookOf, thirdOf, laterOf, haltedOf, movedOf, stepOf}
+use Rattle.machine.specs.Step.{waitOf, secondOf, fetchedOf, onwardOf, tookOf, fromThird, laterOf, haltedOf, movedOf, stepOf}
 
 -- the machine n has the READY and HOLD of m
 abbrev pub Level : Machine → Machine → Type 0
@@ -61,28 +61,29 @@ fetched-level b v m =
     pick-both (Level m) b (withNext (Later 1 4) (withKept (keepOf 1 v (m .kept)) m)) (clearOf Stop m)
     (λ e. (refl, refl)) (λ e. (refl, refl))
 
--- T3
-third-level : (y : Cycle) (c : ℕ) (b : Bool) (v : ℕ) (m : Machine) → Level m (thirdOf y c b v m)
-unfolding thirdOf tookOf withKept
-third-level y c b v m =
-    pick-both (Level m) (eqb c 1) (fetchedOf b v m) (onwardOf y c 3 (tookOf (y .code) c v m)) (λ e. fetched-level b v m)
+-- any other state from T3 on
+third-level : (y : Cycle) (c s v : ℕ) (m : Machine) → Level m (fromThird y c s v m)
+unfolding fromThird tookOf withKept
+third-level y c s v m =
+    let fourth : Machine = pick (eqb s 4) (onwardOf y c 4 m) (endOf c (y .after) m) in
+    pick-both (Level m) (eqb s 3) (onwardOf y c 3 (tookOf (y .code) c v m)) fourth
     (λ e. onward-level y c 3 (tookOf (y .code) c v m))
+    (λ e.
+    pick-both (Level m) (eqb s 4) (onwardOf y c 4 m) (endOf c (y .after) m) (λ e. onward-level y c 4 m)
+    (λ e. end-level c (y .after) m))
 
 -- state s of a cycle
 later-level : (y : Cycle) (c s : ℕ) (b : Bool) (v : ℕ) (m : Machine) → Level m (laterOf y c s b v m)
 unfolding laterOf secondOf waitOf withNext withRegs
 later-level y c s b v m =
-    let fourth : Machine = pick (eqb s 4) (onwardOf y c 4 m) (endOf c (y .after) m) in
-    let third : Machine = pick (eqb s 3) (thirdOf y c b v m) fourth in
+    let third : Machine = pick (eqb s 3 && eqb c 1) (fetchedOf b v m) (fromThird y c s v m) in
     let second : Machine = pick (eqb s 2) (secondOf (y .code) c m) third in
     pick-both (Level m) (eqb s 1) (withNext (Later c 2) m) second (λ e. (refl, refl))
     (λ e.
     pick-both (Level m) (eqb s 2) (secondOf (y .code) c m) third (λ e. (refl, refl))
     (λ e.
-    pick-both (Level m) (eqb s 3) (thirdOf y c b v m) fourth (λ e. third-level y c b v m)
-    (λ e.
-    pick-both (Level m) (eqb s 4) (onwardOf y c 4 m) (endOf c (y .after) m) (λ e. onward-level y c 4 m)
-    (λ e. end-level c (y .after) m))))
+    pick-both (Level m) (eqb s 3 && eqb c 1) (fetchedOf b v m) (fromThird y c s v m) (λ e. fetched-level b v m)
+    (λ e. third-level y c s v m)))
 
 -- the state at a position
 moved-level : (p : Position) (v : ℕ) (m : Machine) → Level m (movedOf p v m)

@@ -2,7 +2,7 @@
 -- Assumes nothing.
 use Prim.Native.Nat.{ℕ, _-_, _≤_}
 use mathlib.Core.Path.{_≡_, subst}
-use mathlib.Core.Bool.{true, false, true≢false}
+use mathlib.Core.Bool.{true, false, true≢false, _&&_}
 use mathlib.Core.Logic.{⊎-elim}
 use native.Mathlib.Omega.{arith}
 use borrow.Author.Tests.{eqb-true, eqb-false, le-leb, lt-leb}
@@ -21,14 +21,15 @@ use Rattle.machine.specs.declared.record.Machine.{Machine}
 use Rattle.machine.specs.Record.{withNext, withKept}
 use Rattle.machine.specs.Cycle.{cyclesOf, cycleOf}
 use Rattle.machine.specs.Ending.{endOf}
-use Rattle.machine.specs.Step.{secondOf, thirdOf, onwardOf, laterOf, haltedOf, movedOf}
+use Rattle.machine.specs.Step.{secondOf, fetchedOf, onwardOf, tookOf, fromThird, laterOf, haltedOf, movedOf}
 use Rattle.machine.specs.Request.{restartOf}
 use Rattle.machine.specs.Well.{oneOf, thereOf, cyclesDone, idleOf}
+use Rattle.machine.proofs.Onward.{fetch-third}
 use Rattle.machine.proofs.Parts.{Well, ReadyAt, cyclesIn, There, Parts, next-well}
 use Rattle.machine.proofs.Ready.{Names, ready-first}
 use Rattle.machine.proofs.Exists.{one-each, later-each, second-there, after-follows}
 use Rattle.machine.proofs.Ends.{hold-well, end-well}
-use Rattle.machine.proofs.States.{three-in, wait-well, second-well, onward-well, third-well}
+use Rattle.machine.proofs.States.{three-in, wait-well, second-well, onward-well, fetched-well, took-well}
 
 -- how many cycles have read before T4, and from T4 on
 early : (c s : ℕ) → s ≤ 3 → cyclesDone (Later c s) ≡ c - 1
@@ -38,6 +39,26 @@ early c s l = rw (le-leb s 3 l)
 late : (c s : ℕ) → 4 ≤ s → cyclesDone (Later c s) ≡ c
 unfolding cyclesDone
 late c s l = rw (lt-leb s 3 l)
+
+-- state s of cycle c from T3 on, T3 of a fetch apart
+third-well : (v c s : ℕ) (m : Machine) → ReadyAt m (cyclesDone (Later c s)) → There m (Later c s) → 3 ≤ s
+    → eqb s 3 && eqb c 1 ≡ false → Well (fromThird (cycleOf (m .kept .opcode) (m .regs .f) c) c s v m)
+unfolding fromThird cycleOf
+third-well v c s m r t h e =
+    let y = cycleOf (m .kept .opcode) (m .regs .f) c in
+    let (l, o, f, g) = later-each (m .kept .opcode) (cyclesIn m) c s t in
+    let last : Machine = endOf c (y .after) m in
+    let fourth : Machine = pick (eqb s 4) (onwardOf y c 4 m) last in
+    pick-both Well (eqb s 3) (onwardOf y c 3 (tookOf (y .code) c v m)) fourth
+    (λ (z : eqb s 3 ≡ true).
+    let q = eqb-true s 3 z in
+    took-well v c m l o (subst (ReadyAt m) (early c s (omega arith)) r) (rw z at e))
+    (λ (z : eqb s 3 ≡ false).
+    let ne = eqb-false s 3 z in
+    let done = subst (ReadyAt m) (late c s (omega arith)) r in
+    pick-both Well (eqb s 4) (onwardOf y c 4 m) last
+    (λ (z : eqb s 4 ≡ true). let q = eqb-true s 4 z in onward-well c 4 m l o done (omega arith) (omega arith))
+    (λ z. end-well c (y .after) m l o done (after-follows (cyclesIn m) c)))
 
 -- state s of cycle c
 later-well : (v c s : ℕ) (m : Machine) → ReadyAt m (cyclesDone (Later c s)) → There m (Later c s)
@@ -51,10 +72,7 @@ later-well v c s m r t a =
     let (l, o, g, h) = later-each op n c s t in
     let three = three-in m c (cyclesDone (Later c s)) r o in
     let before : s ≤ 3 → ReadyAt m (c - 1) = λ z. subst (ReadyAt m) (early c s z) r in
-    let done : 4 ≤ s → ReadyAt m c = λ z. subst (ReadyAt m) (late c s z) r in
-    let last : Machine = endOf c (y .after) m in
-    let fourth : Machine = pick (eqb s 4) (onwardOf y c 4 m) last in
-    let third : Machine = pick (eqb s 3) (thirdOf y c (definedOf v) v m) fourth in
+    let third : Machine = pick (eqb s 3 && eqb c 1) (fetchedOf (definedOf v) v m) (fromThird y c s v m) in
     let second : Machine = pick (eqb s 2) (secondOf (y .code) c m) third in
     pick-both Well (eqb s 1) (withNext (Later c 2) m) second
     (λ (e : eqb s 1 ≡ true).
@@ -64,16 +82,13 @@ later-well v c s m r t a =
     pick-both Well (eqb s 2) (secondOf (y .code) c m) third
     (λ (e : eqb s 2 ≡ true). let q = eqb-true s 2 e in second-well c m l o (before (omega arith)))
     (λ (e2 : eqb s 2 ≡ false).
-    pick-both Well (eqb s 3) (thirdOf y c (definedOf v) v m) fourth
-    (λ (e : eqb s 3 ≡ true). let q = eqb-true s 3 e in third-well v c m l o (before (omega arith)) (λ z. a z q))
-    (λ (e3 : eqb s 3 ≡ false).
     let n1 = eqb-false s 1 e1 in
     let n2 = eqb-false s 2 e2 in
-    let n3 = eqb-false s 3 e3 in
-    let r4 = done (omega arith) in
-    pick-both Well (eqb s 4) (onwardOf y c 4 m) last
-    (λ (e : eqb s 4 ≡ true). let q = eqb-true s 4 e in onward-well c 4 m l o r4 (omega arith) (omega arith))
-    (λ e. end-well c (y .after) m l o r4 (after-follows n c)))))
+    pick-both Well (eqb s 3 && eqb c 1) (fetchedOf (definedOf v) v m) (fromThird y c s v m)
+    (λ (e : eqb s 3 && eqb c 1 ≡ true).
+    let (q, z) = fetch-third c s e in
+    fetched-well v m (subst (ReadyAt m) (omega arith) (before (omega arith))) (a z q))
+    (λ e. third-well v c s m r t (omega arith) e)))
 
 -- a halt state
 halted-well : (m : Machine) → ReadyAt m 0 → T (isNone (m .kept .ack)) → Well (haltedOf m)

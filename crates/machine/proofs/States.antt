@@ -4,7 +4,7 @@ use Prim.Native.Nat.{ℕ, _+_, _-_, _≤_}
 use mathlib.Core.Path.{_≡_, refl, subst}
 use mathlib.Core.Bool.{Bool, true, false, _&&_}
 use native.Mathlib.Omega.{arith}
-use borrow.Author.Tests.{eqb-true, eqb-false, lt-leb}
+use borrow.Author.Tests.{eqb-false, lt-leb}
 use lib.Dec.{T, eqb}
 use Rattle.laws.proofs.Every.{and-left}
 use Rattle.laws.proofs.Tests.{true→T, and-both, pick-both}
@@ -20,7 +20,7 @@ use Rattle.machine.specs.declared.record.Machine.{Machine}
 use Rattle.machine.specs.Record.{withNext, withRegs, withKept}
 use Rattle.machine.specs.Cycle.{cyclesOf, cycleOf}
 use Rattle.machine.specs.Ending.{clearOf, endOf}
-use Rattle.machine.specs.Step.{risenOf, waitOf, secondOf, fetchedOf, onwardOf, tookOf, thirdOf}
+use Rattle.machine.specs.Step.{risenOf, waitOf, secondOf, fetchedOf, onwardOf, tookOf}
 use Rattle.machine.specs.Well.{oneOf, thereOf, cyclesDone, idleOf}
 use Rattle.machine.proofs.Parts.{Well, ReadyAt, cyclesIn, next-well}
 use Rattle.machine.proofs.Ready.{Names, ready-more, ready-took, ready-first}
@@ -71,7 +71,7 @@ onward-well c s m l o r h g =
     (second-there (m .kept .opcode) (cyclesIn m) c (s + 1) l o (omega arith) (omega arith)) tt)
 
 -- T3 of a fetch
-fetched-well : (v : ℕ) (m : Machine) → ReadyAt m 0 → Names v (m .kept) → Well (fetchedOf (definedOf v) v m)
+pub fetched-well : (v : ℕ) (m : Machine) → ReadyAt m 0 → Names v (m .kept) → Well (fetchedOf (definedOf v) v m)
 unfolding fetchedOf withKept keepOf cyclesOf thereOf cyclesDone idleOf
 fetched-well v m r a =
     pick-both Well (definedOf v) (withNext (Later 1 4) (withKept (keepOf 1 v (m .kept)) m)) (clearOf Stop m)
@@ -91,18 +91,13 @@ onward-as op c s m e l o r h g =
     (λ (x : ℕ). c ≤ cyclesOf x (m .regs .f) → s ≤ statesOf (codeOf x c) → Well (onwardOf (cycleOf x (m .regs .f) c) c s m))
     e (λ o g. onward-well c s m l o r h g) o g
 
--- T3
-pub third-well : (v c : ℕ) (m : Machine) → 1 ≤ c → c ≤ cyclesIn m → ReadyAt m (c - 1) → (c ≡ 1 → Names v (m .kept))
-    → Well (thirdOf (cycleOf (m .kept .opcode) (m .regs .f) c) c (definedOf v) v m)
-unfolding thirdOf tookOf withKept keepOf cycleOf
-third-well v c m l o r a =
+-- T3 of a later cycle
+pub took-well : (v c : ℕ) (m : Machine) → 1 ≤ c → c ≤ cyclesIn m → ReadyAt m (c - 1) → eqb c 1 ≡ false
+    → let y = cycleOf (m .kept .opcode) (m .regs .f) c in Well (onwardOf y c 3 (tookOf (y .code) c v m))
+unfolding tookOf withKept keepOf cycleOf
+took-well v c m l o r e =
     let y = cycleOf (m .kept .opcode) (m .regs .f) c in
     let three = three-in m c (c - 1) r o in
-    pick-both Well (eqb c 1) (fetchedOf (definedOf v) v m) (onwardOf y c 3 (tookOf (y .code) c v m))
-    (λ (e : eqb c 1 ≡ true).
-    let q = eqb-true c 1 e in
-    fetched-well v m (subst (ReadyAt m) (omega arith) r) (a q))
-    (λ (e : eqb c 1 ≡ false).
     let ne = eqb-false c 1 e in
     pick-both (λ (k : Kept). Well (onwardOf y c 3 (withKept k m))) (readsOf (y .code)) (keepOf c v (m .kept)) (m .kept)
     (λ (t : readsOf (y .code) ≡ true).
@@ -111,4 +106,4 @@ third-well v c m l o r a =
     (omega arith) three)
     (λ t.
     onward-as (m .kept .opcode) c 3 (withKept (m .kept) m) refl l o
-    (ready-more (m .regs .f) (m .lines) (m .kept) c (omega arith) r) (omega arith) three))
+    (ready-more (m .regs .f) (m .lines) (m .kept) c (omega arith) r) (omega arith) three)

@@ -1,7 +1,9 @@
--- The cold machine, the clock, and the record with a part of it changed. Source: document 01, "The machine".
+-- The cold machine, what comes next, the clock, and the record with a part of it changed. Source: document 01, "The machine".
 -- Cited by `machine::record` and everything above.
 use Prim.Native.Nat.{ℕ, _+_, _%_}
-use mathlib.Core.Bool.{false}
+use mathlib.Core.Bool.{Bool, false}
+use lib.Dec.{eqb}
+use Rattle.laws.specs.Choice.{pick}
 use Rattle.opcodes.specs.declared.cycle.Acknowledge.the-variants.{None}
 use Rattle.effect.specs.declared.registers.Registers.{Registers}
 use Rattle.effect.specs.declared.kept.Kept.{Kept}
@@ -38,11 +40,19 @@ withLines l m = record { regs = m .regs; kept = m .kept; lines = l; clock = m .c
 unfoldable pub withClock : ℕ → Machine → Machine
 withClock t m = record { regs = m .regs; kept = m .kept; lines = m .lines; clock = t; next = m .next }
 
+-- what comes next as a number: "mode (0 fetch next, 1 halted, 2 stopped)", and 3 a later state of a cycle, 4 a wait, 5 a hold
+abbrev pub nextNumber : Position → ℕ
+nextNumber Fetch = 0
+nextNumber (Later c s) = 3
+nextNumber (Wait c) = 4
+nextNumber (Hold c) = 5
+nextNumber Halt = 1
+nextNumber Stop = 2
+
+-- nothing comes next
+unfoldable pub stoppedOf : Position → Bool
+stoppedOf p = eqb (nextNumber p) 2
+
 -- the clock after one more state: it counts modulo 4,294,967,296, and a stopped machine does no state
 unfoldable pub tickedOf : Position → ℕ → ℕ
-tickedOf Fetch t = (t + 1) % 4294967296
-tickedOf (Later c s) t = (t + 1) % 4294967296
-tickedOf (Wait c) t = (t + 1) % 4294967296
-tickedOf (Hold c) t = (t + 1) % 4294967296
-tickedOf Halt t = (t + 1) % 4294967296
-tickedOf Stop t = t
+tickedOf p t = pick (stoppedOf p) t ((t + 1) % 4294967296)

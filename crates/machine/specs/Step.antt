@@ -1,7 +1,7 @@
 -- One state. Source: document 01, "Cycles" and "Waits, holds, interrupts, halt". Cited by `machine::step`.
 -- In all of these c is the cycle, y what is known of it, and v the byte on the bus.
 use Prim.Native.Nat.{ℕ, _+_}
-use mathlib.Core.Bool.{Bool, true, false, _&&_}
+use mathlib.Core.Bool.{Bool, true, _&&_}
 use lib.Dec.{eqb}
 use Rattle.laws.specs.Choice.{pick}
 use Rattle.alu.specs.Words.{upOf}
@@ -15,7 +15,7 @@ use Rattle.machine.specs.declared.record.Position.{Position}
 use Rattle.machine.specs.declared.record.Position.the-variants.{Fetch, Later, Wait, Hold, Halt, Stop}
 use Rattle.machine.specs.declared.record.Machine.{Machine}
 use Rattle.machine.specs.declared.cycle.Cycle.{Cycle}
-use Rattle.machine.specs.Record.{withNext, withRegs, withKept, withClock, tickedOf}
+use Rattle.machine.specs.Record.{withNext, withRegs, withKept, withClock, stoppedOf, tickedOf}
 use Rattle.machine.specs.Cycle.{afterOf, cyclesOf, cycleOf}
 use Rattle.machine.specs.Ending.{takesOf, acknowledgeOf, clearOf, endedOf, followOf, holdOf, endOf}
 
@@ -44,18 +44,17 @@ onwardOf y c s m = pick (eqb (y .states) s) (endOf c (y .after) m) (withNext (La
 unfoldable pub tookOf : ℕ → ℕ → ℕ → Machine → Machine
 tookOf code c v m = withKept (pick (readsOf code) (keepOf c v (m .kept)) (m .kept)) m
 
-unfoldable pub thirdOf : Cycle → ℕ → Bool → ℕ → Machine → Machine
-thirdOf y c defined v m =
-    pick (eqb c 1) (fetchedOf defined v m) (onwardOf y c 3 (tookOf (y .code) c v m))
+-- state s from T3 on, T3 of a fetch apart: T3 keeps its byte, T3 and T4 may be the cycle's last, and T5 is
+unfoldable pub fromThird : Cycle → ℕ → ℕ → ℕ → Machine → Machine
+fromThird y c s v m =
+    pick (eqb s 3) (onwardOf y c 3 (tookOf (y .code) c v m)) (pick (eqb s 4) (onwardOf y c 4 m) (endOf c (y .after) m))
 
 -- state s of a cycle, T1 of the first apart
 unfoldable pub laterOf : Cycle → ℕ → ℕ → Bool → ℕ → Machine → Machine
 laterOf y c s defined v m =
     pick (eqb s 1) (withNext (Later c 2) m)
     (pick (eqb s 2) (secondOf (y .code) c m)
-    (pick (eqb s 3) (thirdOf y c defined v m)
-    (pick (eqb s 4) (onwardOf y c 4 m)
-    (endOf c (y .after) m))))
+    (pick (eqb s 3 && eqb c 1) (fetchedOf defined v m) (fromThird y c s v m)))
 
 -- a halt state: a hold after it is "recorded as one after HLT's second cycle"
 unfoldable pub haltedOf : Machine → Machine
@@ -76,6 +75,6 @@ stepOf v m = withClock (tickedOf (m .next) (m .clock)) (movedOf (m .next) v m)
 
 -- one name that opens the rules of a state
 unfoldable pub stepping : ℕ
-unfolding withNext withRegs withKept withClock tickedOf cycleOf cyclesOf afterOf takesOf acknowledgeOf clearOf endedOf followOf
-    holdOf endOf risenOf waitOf secondOf fetchedOf onwardOf tookOf thirdOf laterOf haltedOf movedOf stepOf
+unfolding withNext withRegs withKept withClock stoppedOf tickedOf cycleOf cyclesOf afterOf takesOf acknowledgeOf clearOf endedOf followOf
+    holdOf endOf risenOf waitOf secondOf fetchedOf onwardOf tookOf fromThird laterOf haltedOf movedOf stepOf
 stepping = 0

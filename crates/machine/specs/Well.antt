@@ -1,7 +1,7 @@
 -- Which records are well formed: a run gives 8 exactly for the others. Source: document 01, "Numbers returned", last paragraph,
 -- whose parts stand here in its order, each turned round. Cited by `machine::well`.
-use Prim.Native.Nat.{ℕ, _+_, _-_, _*_, _/_, _%_}
-use mathlib.Core.Bool.{Bool, true, false, not, _&&_, _||_}
+use Prim.Native.Nat.{ℕ, _-_, _/_, _%_}
+use mathlib.Core.Bool.{Bool, true, not, _&&_, _||_}
 use lib.Dec.{eqb, leb}
 use Rattle.laws.specs.Choice.{pick}
 use Rattle.opcodes.specs.Cycles.{codeOf, definedOf}
@@ -11,6 +11,7 @@ use Rattle.machine.specs.declared.record.Lines.{Lines}
 use Rattle.machine.specs.declared.record.Position.{Position}
 use Rattle.machine.specs.declared.record.Position.the-variants.{Fetch, Later, Wait, Hold, Halt, Stop}
 use Rattle.machine.specs.declared.record.Machine.{Machine}
+use Rattle.machine.specs.Record.{nextNumber}
 use Rattle.machine.specs.Cycle.{cyclesOf}
 use Rattle.machine.specs.Request.{restartOf}
 
@@ -50,12 +51,7 @@ cyclesDone Stop = 0
 
 -- a halt state or a stop is next
 unfoldable pub idleOf : Position → Bool
-idleOf Fetch = false
-idleOf (Later c s) = false
-idleOf (Wait c) = false
-idleOf (Hold c) = false
-idleOf Halt = true
-idleOf Stop = true
+idleOf p = eqb (nextNumber p) 1 || eqb (nextNumber p) 2
 
 -- "an acknowledge is named and the opcode kept, once read, is not the RST of the number taken; that number is over 7, or isn't
 -- 0 without an acknowledge; an acknowledge is named with a halt state or a stop next"

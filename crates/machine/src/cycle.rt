@@ -26,7 +26,7 @@ fn after(n: u8, c: u8) -> u8
 }
 
 // Whether the opcode is defined.
-pub fn is_defined(t: &[u64; 256], op: u8) -> bool
+pub(crate) fn is_defined(t: &[u64; 256], op: u8) -> bool
     requires { ⌜ now t ≡ entries ⌝ }
     ensures { λ b. ⌜ b ≡ definedOf op ⌝ }
 {
@@ -34,7 +34,7 @@ pub fn is_defined(t: &[u64; 256], op: u8) -> bool
 }
 
 // The code of cycle c of the opcode.
-pub fn code_at(t: &[u64; 256], op: u8, c: u8) -> u8
+pub(crate) fn code_at(t: &[u64; 256], op: u8, c: u8) -> u8
     requires { ⌜ now t ≡ entries ⌝ }
     ensures { λ v. ⌜ v ≡ codeOf op c ⌝ }
 {
@@ -42,7 +42,7 @@ pub fn code_at(t: &[u64; 256], op: u8, c: u8) -> u8
 }
 
 // How many cycles the opcode has under the flag byte f.
-pub fn cycles(t: &[u64; 256], op: u8, f: u8) -> u8
+pub(crate) fn cycles(t: &[u64; 256], op: u8, f: u8) -> u8
     requires { ⌜ now t ≡ entries ⌝ }
     ensures { λ n. ⌜ (n ≡ cyclesOf op f) × (n < 16) ⌝ }
 {
@@ -50,7 +50,7 @@ pub fn cycles(t: &[u64; 256], op: u8, f: u8) -> u8
 }
 
 // Cycle c of it.
-pub fn cycle_at(t: &[u64; 256], op: u8, f: u8, c: u8) -> Cycle
+pub(crate) fn cycle_at(t: &[u64; 256], op: u8, f: u8, c: u8) -> Cycle
     requires { ⌜ now t ≡ entries ⌝ }
     ensures { λ y. ⌜ y ≡ cycleOf op f c ⌝ }
 {

@@ -1,6 +1,7 @@
-// The machine's record, the cold machine, and the record with a part of it changed.
+// The machine's record, the cold machine, what comes next, and the record with a part changed.
 ghost use mathlib.Core.Path.{_≡_};
-ghost use Rattle.machine.specs.Record.{coldOf, withNext, withRegs, withKept, withLines, withClock, tickedOf};
+ghost use Rattle.machine.specs.Record.{coldOf, withNext, withRegs, withKept, withLines, withClock};
+ghost use Rattle.machine.specs.Record.{nextNumber, stoppedOf, tickedOf};
 use effect::kept::Kept;
 use effect::registers::Registers;
 use opcodes::cycle::Acknowledge;
@@ -31,18 +32,40 @@ pub struct Machine {
     pub next: Position,
 }
 
+// The numbers of a halt state and of a stop.
+pub(crate) const HALT: u8 = 1;
+
+pub(crate) const STOP: u8 = 2;
+
+// What comes next as a number: 0 fetch, 1 halt state, 2 stop, 3 later state, 4 wait, 5 hold.
+pub fn next_number(p: Position) -> u8
+    ensures { λ v. ⌜ v ≡ nextNumber p ⌝ }
+{
+    match p {
+        Position::Fetch => 0,
+        Position::Later { cycle: _, state: _ } => 3,
+        Position::Wait { cycle: _ } => 4,
+        Position::Hold { cycle: _ } => 5,
+        Position::Halt => HALT,
+        Position::Stop => STOP,
+    }
+}
+
+// Nothing comes next.
+pub fn stopped(p: Position) -> bool
+    ensures { λ b. ⌜ b ≡ stoppedOf p ⌝ }
+{
+    next_number(p) == STOP
+}
+
 // The clock after one more state: it counts every state, and a stopped machine does none.
-pub fn ticked(next: Position, clock: u32) -> u32
+pub(crate) fn ticked(next: Position, clock: u32) -> u32
     ensures { λ v. ⌜ v ≡ tickedOf next clock ⌝ }
 {
-    let one = std::num::wrapping_add_u32(clock, 1);
-    match next {
-        Position::Fetch => one,
-        Position::Later { cycle: _, state: _ } => one,
-        Position::Wait { cycle: _ } => one,
-        Position::Hold { cycle: _ } => one,
-        Position::Halt => one,
-        Position::Stop => clock,
+    if stopped(next) {
+        clock
+    } else {
+        std::num::wrapping_add_u32(clock, 1)
     }
 }
 
@@ -75,7 +98,7 @@ impl Machine {
         }
     }
 
-    pub fn with_next(self, next: Position) -> Machine
+    pub(crate) fn with_next(self, next: Position) -> Machine
         ensures { λ n. ⌜ n ≡ withNext next self ⌝ }
     {
         Machine { next: next, ..self }
@@ -87,7 +110,7 @@ impl Machine {
         Machine { regs: regs, ..self }
     }
 
-    pub fn with_kept(self, kept: Kept) -> Machine
+    pub(crate) fn with_kept(self, kept: Kept) -> Machine
         ensures { λ n. ⌜ n ≡ withKept kept self ⌝ }
     {
         Machine { kept: kept, ..self }
@@ -102,7 +125,7 @@ impl Machine {
         }
     }
 
-    pub fn with_clock(self, clock: u32) -> Machine
+    pub(crate) fn with_clock(self, clock: u32) -> Machine
         ensures { λ n. ⌜ n ≡ withClock clock self ⌝ }
     {
         Machine {

@@ -19,7 +19,7 @@ pub enum Request {
 }
 
 // The byte that answers an acknowledge: RST of the number taken.
-pub fn restart(k: Kept) -> u8
+pub(crate) fn restart(k: Kept) -> u8
     ensures { λ v. ⌜ v ≡ restartOf k ⌝ }
 {
     0xC7 + 8 * (k.rst % 8)

@@ -6,9 +6,8 @@ ghost use Rattle.laws.specs.Choice.{pick};
 ghost use Rattle.opcodes.specs.Entries.{entries};
 ghost use Rattle.opcodes.specs.Cycles.{definedOf};
 ghost use Rattle.machine.specs.Cycle.{cycleOf};
-ghost use Rattle.machine.specs.Ending.{endOf};
-ghost use Rattle.machine.specs.Step.{risenOf, waitOf, secondOf, fetchedOf, onwardOf, tookOf};
-ghost use Rattle.machine.specs.Step.{laterOf, haltedOf, movedOf, stepOf};
+ghost use Rattle.machine.specs.Step.{risenOf, waitOf, secondOf, fetchedOf, tookOf};
+ghost use Rattle.machine.specs.Step.{fromThird, laterOf, haltedOf, movedOf, stepOf};
 use crate::cycle::Cycle;
 use crate::cycle::code_at;
 use crate::cycle::cycle_at;
@@ -112,9 +111,9 @@ impl Machine {
         if s == 3 { self.took(code, c, v) } else { self }
     }
 
-    // State s, T3 of a fetch and what comes before it apart: the end of the cycle, or its next state.
-    fn onward(self, y: Cycle, c: u8, s: u8, v: u8) -> Machine
-        ensures { λ n. ⌜ n ≡ pick (eqb s 3) (onwardOf y c 3 (tookOf (y .code) c v self)) (pick (eqb s 4) (onwardOf y c 4 self) (endOf c (y .after) self)) ⌝ }
+    // State s from T3 on, T3 of a fetch apart: the end of the cycle, or its next state.
+    fn from_third(self, y: Cycle, c: u8, s: u8, v: u8) -> Machine
+        ensures { λ n. ⌜ n ≡ fromThird y c s v self ⌝ }
     {
         let took = self.took_in(s, y.code, c, v);
         if over(y.states, s) {
@@ -143,7 +142,7 @@ impl Machine {
         if (s == 3) & (c == 1) {
             return self.fetched(is_defined(t, v), v);
         }
-        self.onward(cycle_at(t, kept.opcode, regs.f, c), c, s, v)
+        self.from_third(cycle_at(t, kept.opcode, regs.f, c), c, s, v)
     }
 
     // A halt state.

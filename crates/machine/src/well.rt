@@ -7,9 +7,12 @@ ghost use Rattle.machine.specs.Well.{zeroOrRead, bytesOf, wellOf};
 use crate::cycle::code_at;
 use crate::cycle::cycles;
 use crate::cycle::is_defined;
+use crate::record::HALT;
 use crate::record::Lines;
 use crate::record::Machine;
 use crate::record::Position;
+use crate::record::STOP;
+use crate::record::next_number;
 use crate::request::restart;
 use effect::kept::Kept;
 use opcodes::cycle::is_none;
@@ -87,14 +90,8 @@ fn cycles_done(p: Position) -> u8
 fn idle(p: Position) -> bool
     ensures { λ b. ⌜ b ≡ idleOf p ⌝ }
 {
-    match p {
-        Position::Fetch => false,
-        Position::Later { cycle: _, state: _ } => false,
-        Position::Wait { cycle: _ } => false,
-        Position::Hold { cycle: _ } => false,
-        Position::Halt => true,
-        Position::Stop => true,
-    }
+    let n = next_number(p);
+    (n == HALT) | (n == STOP)
 }
 
 // The acknowledge and its number.
@@ -132,7 +129,7 @@ fn bytes(t: &[u64; 256], k: Kept, d: u8) -> bool
 
 impl Machine {
     // Whether the record is well formed, with the table lent.
-    pub fn well_by(self, t: &[u64; 256]) -> bool
+    pub(crate) fn well_by(self, t: &[u64; 256]) -> bool
         requires { ⌜ now t ≡ entries ⌝ }
         ensures { λ b. ⌜ b ≡ wellOf self ⌝ }
     {

@@ -8,10 +8,10 @@ use Rattle.effect.specs.declared.registers.Registers.{Registers}
 use Rattle.effect.specs.Kept.{keepOf}
 use Rattle.machine.specs.declared.record.Position.the-variants.{Halt}
 use Rattle.machine.specs.declared.record.Machine.{Machine}
-use Rattle.machine.specs.Record.{withLines}
+use Rattle.machine.specs.Record.{withLines, stoppedOf}
 use Rattle.machine.specs.Step.{stepping, stepOf}
 use Rattle.schedule.specs.Levels.{levelsAt}
-use Rattle.run.specs.Run.{World, stoppedOf, eventfulOf, stateOf, runOf}
+use Rattle.run.specs.Run.{World, eventfulOf, stateOf, runOf}
 use Rattle.run.proofs.Laws.{run-plus}
 
 -- halted with the registers r, HOLD and INT down

@@ -8,13 +8,13 @@ use native.Mathlib.Omega.{arith}
 use lib.ListN.{length}
 use Rattle.laws.specs.Choice.{pick}
 use Rattle.machine.specs.declared.record.Machine.{Machine}
-use Rattle.machine.specs.Record.{coldOf}
+use Rattle.machine.specs.Record.{coldOf, stoppedOf}
 use Rattle.run.specs.declared.answer.Verdict.{Verdict}
 use Rattle.run.specs.declared.answer.Verdict.the-variants as verdict
 use Rattle.run.specs.declared.answer.Ran.{Ran}
 use Rattle.run.specs.declared.answer.Answer.{Answer}
 use Rattle.run.specs.declared.answer.Answer.the-variants.{Done, Stopped}
-use Rattle.run.specs.Run.{World, stoppedOf, runOf}
+use Rattle.run.specs.Run.{World, runOf}
 use Rattle.run.specs.Answer.{ranOf}
 use Rattle.run.specs.Outcome.{startOf, verdictOf, ranIn, leftBy, leftOf, answeredOf, answerBy, answerOf, Outcome}
 use Rattle.run.proofs.Turn.{world}

@@ -1,17 +1,17 @@
 -- A run in several calls: the trace and the count so far play no part in what the states do, so a second call, with a trace of
 -- its own, goes on where the first ended. And two results that the contract of `run` allows coincide. Assumes nothing.
 use Prim.Native.Nat.{ℕ, zero, suc, _+_}
-use mathlib.Core.Path.{_≡_, refl, sym, ap, _∙_}
+use mathlib.Core.Path.{_≡_, refl, sym, ap}
 use mathlib.Core.Bool.{Bool, true, false, false≢true}
 use mathlib.Core.List.{List}
 use native.Mathlib.Omega.{arith}
 use Rattle.laws.specs.Choice.{pick}
 use Rattle.laws.proofs.Unique.{one-value}
 use Rattle.machine.specs.declared.record.Machine.{Machine}
+use Rattle.machine.specs.Record.{stoppedOf}
 use Rattle.run.specs.declared.answer.Verdict.the-variants as verdict
 use Rattle.run.specs.declared.answer.Answer.{Answer}
-use Rattle.run.specs.State.{asked, heard, memoryAfter, outputsAfter}
-use Rattle.run.specs.Run.{World, stoppedOf, eventfulOf, stateOf, runOf}
+use Rattle.run.specs.Run.{World, stateOf, runOf}
 use Rattle.run.specs.Outcome.{startOf, verdictOf, leftOf, Outcome}
 use Rattle.run.proofs.Laws.{nextOf, run-plus, good-left}
 

@@ -1,17 +1,18 @@
 -- Laws of `runOf`: no states, a stop, one state more, and a run in two parts; and of a run by its verdict.
 -- Assumes nothing.
 use Prim.Native.Nat.{ℕ, zero, suc, _+_, _-_, _≤_, _<_}
-use mathlib.Core.Path.{_≡_, refl, sym, ap, _∙_}
+use mathlib.Core.Path.{_≡_, refl, sym}
 use mathlib.Core.Bool.{Bool, true, false}
 use mathlib.Core.List.{List}
 use native.Mathlib.Omega.{arith}
 use native.Mathlib.Nat.{zero-add, suc-add}
 use Rattle.laws.specs.Choice.{pick}
+use Rattle.machine.specs.Record.{stoppedOf}
 use Rattle.run.specs.declared.answer.Refusal.{Refusal}
 use Rattle.run.specs.declared.answer.Verdict.the-variants as verdict
 use Rattle.run.specs.declared.answer.Answer.the-variants.{Refused}
-use Rattle.run.specs.Outcome.{verdictOf, leftBy, leftOf, ranIn, answeredOf, answerBy, answerOf}
-use Rattle.run.specs.Run.{World, stoppedOf, eventfulOf, stateOf, runOf}
+use Rattle.run.specs.Outcome.{verdictOf, leftOf, ranIn, answeredOf, answerOf}
+use Rattle.run.specs.Run.{World, eventfulOf, stateOf, runOf}
 
 suc-less : (n : ℕ) → suc n - 1 ≡ n
 suc-less n = omega arith

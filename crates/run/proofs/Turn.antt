@@ -1,20 +1,18 @@
 -- One turn of the loop that does the states: what holds before it, and that it does one state of the definition.
 -- Assumes nothing.
 use Prim.Native.Nat.{ℕ, _+_, _-_, _*_, _/_, _%_, _≤_, _<_}
-use mathlib.Core.Path.{_≡_, refl, sym, ap, _∙_}
-use mathlib.Core.Bool.{true, false, false≢true}
+use mathlib.Core.Path.{_≡_, ap, _∙_}
+use mathlib.Core.Bool.{false}
 use mathlib.Core.List.{List}
 use lib.ListN.{length}
 use Rattle.machine.specs.declared.record.Lines.{Lines}
-use Rattle.machine.specs.declared.record.Position.{Position}
-use Rattle.machine.specs.declared.record.Position.the-variants.{Stop}
 use Rattle.machine.specs.declared.record.Machine.{Machine}
-use Rattle.machine.specs.Record.{withLines}
+use Rattle.machine.specs.Record.{withLines, stoppedOf}
 use Rattle.machine.proofs.Laws.{clock-rises}
 use Rattle.schedule.specs.Events.{stateNumberOf}
 use Rattle.schedule.specs.Levels.{levelsAt}
 use Rattle.run.specs.State.{After}
-use Rattle.run.specs.Run.{World, stoppedOf, eventfulOf, stateOf, runOf}
+use Rattle.run.specs.Run.{World, eventfulOf, stateOf, runOf}
 use Rattle.run.specs.Outcome.{startOf}
 use Rattle.run.proofs.Laws.{run-more}
 
@@ -53,15 +51,11 @@ pub made-eventful : (s : List ℕ) (m r : Machine) (l : Lines) → r ≡ withLin
 unfolding eventfulOf
 made-eventful s m r l p q = simp (p, q)
 
-not-stop : (p : Position) → stoppedOf p ≡ false → p ≡ Stop → ⊥
-unfolding stoppedOf
-not-stop p f e = false≢true (sym f ∙ rw e)
-
 -- and the clock has counted the state
 pub turn-clock : (cur r n : Machine) (v : Lines) (x i o l : List ℕ) (at : ℕ) (x' o' l' : List ℕ) → stoppedOf (cur .next) ≡ false
     → r ≡ withLines v cur → After r x i o l at n x' o' l' → n .clock ≡ (cur .clock + 1) % 4294967296
 unfolding withLines
 turn-clock cur r n v x i o l at x' o' l' f e a =
     ap (λ (y : Machine). y .clock) (a .machine)
-    ∙ clock-rises _ r (λ q. not-stop (cur .next) f (sym (ap (λ (y : Machine). y .next) e) ∙ q))
+    ∙ clock-rises _ r (ap (λ (y : Machine). stoppedOf (y .next)) e ∙ f)
     ∙ ap (λ (y : Machine). (y .clock + 1) % 4294967296) e

@@ -5,12 +5,13 @@ use mathlib.Core.List.{List}
 use lib.ListN.{length}
 use Rattle.laws.specs.Choice.{pick}
 use Rattle.machine.specs.declared.record.Machine.{Machine}
+use Rattle.machine.specs.Record.{stoppedOf}
 use Rattle.run.specs.declared.answer.Verdict.{Verdict}
 use Rattle.run.specs.declared.answer.Verdict.the-variants as verdict
 use Rattle.run.specs.declared.answer.Ran.{Ran}
 use Rattle.run.specs.declared.answer.Answer.{Answer}
 use Rattle.run.specs.declared.answer.Answer.the-variants.{Done, Stopped, Refused}
-use Rattle.run.specs.Run.{World, stoppedOf, runOf}
+use Rattle.run.specs.Run.{World, runOf}
 use Rattle.run.specs.Check.{checkOf}
 
 -- the world before a run

@@ -1,14 +1,11 @@
 -- Many states, one after the other. Source: document 01, "Schedule" and "Numbers returned". Cited by `run::going`.
 -- s is the schedule, inputs are the input ports.
 use Prim.Native.Nat.{ℕ, zero, suc, _+_, _*_, _/_}
-use mathlib.Core.Bool.{Bool, true, false}
 use mathlib.Core.List.{List}
 use lib.ListN.{length}
 use Rattle.laws.specs.Choice.{pick}
-use Rattle.machine.specs.declared.record.Position.{Position}
-use Rattle.machine.specs.declared.record.Position.the-variants.{Fetch, Later, Wait, Hold, Halt, Stop}
 use Rattle.machine.specs.declared.record.Machine.{Machine}
-use Rattle.machine.specs.Record.{withLines}
+use Rattle.machine.specs.Record.{withLines, stoppedOf}
 use Rattle.machine.specs.Step.{stepOf}
 use Rattle.machine.specs.Look.{lookOf}
 use Rattle.machine.specs.Row.{rowOf}
@@ -22,15 +19,6 @@ pub record World : Type 0 where
   pub outputs : List ℕ
   pub trace : List ℕ
   pub states : ℕ
-
--- nothing comes next
-unfoldable pub stoppedOf : Position → Bool
-stoppedOf Fetch = false
-stoppedOf (Later c s) = false
-stoppedOf (Wait c) = false
-stoppedOf (Hold c) = false
-stoppedOf Halt = false
-stoppedOf Stop = true
 
 -- "An event acts at the start of the state whose number equals its own, before anything else"
 unfoldable pub eventfulOf : List ℕ → Machine → Machine

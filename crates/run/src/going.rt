@@ -1,26 +1,10 @@
 // The states of a run whose arguments have passed the tests.
-ghost use mathlib.Core.Path.{_≡_};
-ghost use Rattle.run.specs.Run.{stoppedOf};
 ghost use Rattle.run.specs.Going.{Fit, Went};
 use crate::answer::Ran;
 use crate::state::state;
 use machine::record::Machine;
-use machine::record::Position;
+use machine::record::stopped;
 use schedule::levels::levels_at;
-
-// Nothing comes next.
-pub(crate) fn stopped(p: Position) -> bool
-    ensures { λ b. ⌜ b ≡ stoppedOf p ⌝ }
-{
-    match p {
-        Position::Fetch => false,
-        Position::Later { cycle: _, state: _ } => false,
-        Position::Wait { cycle: _ } => false,
-        Position::Hold { cycle: _ } => false,
-        Position::Halt => false,
-        Position::Stop => true,
-    }
-}
 
 // n states, or fewer where the machine stops.
 pub(crate) fn go(

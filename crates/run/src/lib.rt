@@ -7,8 +7,8 @@ use crate::answer::Ran;
 use crate::answer::Verdict;
 use crate::check::check;
 use crate::going::go;
-use crate::going::stopped;
 use machine::record::Machine;
+use machine::record::stopped;
 
 pub mod answer;
 mod bus;

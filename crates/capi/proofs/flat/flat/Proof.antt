@@ -14,7 +14,7 @@ returns c =
     rw (
       copied .copy .ensures .1,
       made .header-with .ensures,
-      ← (made .before .next-byte .ensures),
+      ← (made .before .next-number .ensures),
       ← (c .before .before .cycle-byte .ensures),
       ← (c .before .state-byte .ensures),
       ← (c .acknowledge-byte .ensures),

@@ -1,24 +1,21 @@
 -- `capi::number::step_number` meets its contract.
 -- Assumes nothing.
 use mathlib.Core.Path.{_≡_}
-use lib.Dec.{eqb}
 use borrow.Author.Tests.{eq-eqb, ne-eqb, not-true, not-false}
 use Rattle.laws.specs.Choice.{pick}
 use Rattle.capi.specs.Numbers.{stepNumber}
-use Rattle.capi.proofs.Steps.{stop-byte}
 use borrow.Author.Needs.{needs}
 use Rattle.capi.proofs.number.step_number.Statement.{statement}
 use Rattle.capi.proofs.number.step_number.Tie as tie
 
--- past the tests 8 and 9 the number goes by the byte of what comes next
-by-byte : (c : tie.After-next-byte)
-    → stepNumber (c .before .before .before .before .before .args .m) ≡ pick (eqb (c .next-byte .result) 2) 10 0
+-- past the tests 8 and 9 the number says whether the machine has stopped
+by-stop : (c : tie.After-stopped)
+    → stepNumber (c .before .before .before .before .before .args .m) ≡ pick (c .stopped .result) 10 0
 unfolding stepNumber
-by-byte c =
+by-stop c =
     let test = c .before .before .before in
     simp (
-      stop-byte,
-      ← (c .next-byte .ensures),
+      ← (c .stopped .ensures),
       ne-eqb _ _ (c .before .if2 .left),
       not-false (test .before .well .result) (test .if1 .left),
       ← (test .before .well .ensures),
@@ -33,5 +30,4 @@ step-number-spec =
     (λ c.
     let test = c .before .before in
     simp (eq-eqb _ _ (c .if2 .taken), not-false (test .before .well .result) (test .if1 .left), ← (test .before .well .ensures)))
-    (search needs) (λ c. simp (by-byte (c .before), eq-eqb _ _ (c .if3 .taken)))
-    (λ c. simp (by-byte (c .before), ne-eqb _ _ (c .if3 .left))))
+    (search needs) (λ c. simp (by-stop (c .before), c .if3 .taken)) (λ c. simp (by-stop (c .before), c .if3 .left)))

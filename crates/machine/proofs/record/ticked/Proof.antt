@@ -9,10 +9,6 @@ pub ticked-spec : {M : Type 1} → statement M
 unfolding tickedOf
 ticked-spec =
     tie.close
-    (tie.spec (search needs) (search needs) (search needs) (search needs) (search needs) (search needs) (search needs)
-    (λ c. simp (c .enum-told .given .1, ← (c .before .before .wrapping-add-u32 .ensures)))
-    (λ c. simp (c .enum-told2 .given .1, ← (c .before .before .wrapping-add-u32 .ensures)))
-    (λ c. simp (c .enum-told3 .given .1, ← (c .before .before .wrapping-add-u32 .ensures)))
-    (λ c. simp (c .enum-told4 .given .1, ← (c .before .before .wrapping-add-u32 .ensures)))
-    (λ c. simp (c .enum-told5 .given .1, ← (c .before .before .wrapping-add-u32 .ensures)))
-    (λ c. simp (c .enum-told6 .given .1, ← (c .before .before .wrapping-add-u32 .ensures))))
+    (tie.spec (search needs) (search needs)
+    (λ c. simp (← (c .before .stopped .ensures), c .if1 .taken))
+    (λ c. simp (← (c .before .before .stopped .ensures), c .before .if1 .left, ← (c .wrapping-add-u32 .ensures))))

@@ -7,12 +7,4 @@ use Rattle.machine.proofs.well.idle.Tie as tie
 
 pub idle-spec : {M : Type 1} → statement M
 unfolding idleOf
-idle-spec =
-    tie.close
-    (tie.spec (search needs) (search needs) (search needs) (search needs) (search needs) (search needs)
-    (λ c. simp (c .enum-told .given .1))
-    (λ c. simp (c .enum-told2 .given .1))
-    (λ c. simp (c .enum-told3 .given .1))
-    (λ c. simp (c .enum-told4 .given .1))
-    (λ c. simp (c .enum-told5 .given .1))
-    (λ c. simp (c .enum-told6 .given .1)))
+idle-spec = tie.close (tie.spec (search needs) (λ c. rw (← (c .next-number .ensures))))

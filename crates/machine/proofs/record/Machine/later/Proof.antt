@@ -4,9 +4,31 @@ use Rattle.machine.specs.Cycle.{cycleOf}
 use Rattle.machine.specs.Step.{laterOf}
 use borrow.Author.Tests.{eq-eqb, ne-eqb}
 use borrow.Author.Needs.{needs}
-use Rattle.machine.proofs.Onward.{later-fetch, later-onward}
 use Rattle.machine.proofs.record.Machine.later.Statement.{statement}
 use Rattle.machine.proofs.record.Machine.later.Tie as tie
+
+-- T3 of a fetch, and any other state from T3 on
+fetches : tie.Need-returns-3
+unfolding laterOf
+fetches c =
+    simp (
+      ← (c .fetched .ensures),
+      ← (c .before .is-defined .ensures),
+      c .before .before .if3 .taken,
+      ne-eqb _ _ (c .before .before .before .if2 .left),
+      ne-eqb _ _ (c .before .before .before .before .if1 .left),
+    )
+
+goes-on : tie.Need-returns-4
+unfolding laterOf
+goes-on c =
+    simp (
+      ← (c .from-third .ensures),
+      ← (c .before .cycle-at .ensures),
+      c .before .before .if3 .left,
+      ne-eqb _ _ (c .before .before .before .if2 .left),
+      ne-eqb _ _ (c .before .before .before .before .if1 .left),
+    )
 
 pub later-spec : {M : Type 1} → statement M
 unfolding laterOf cycleOf
@@ -26,19 +48,5 @@ later-spec =
       eq-eqb _ _ (c .before .before .if2 .taken),
       ne-eqb _ _ (c .before .before .before .if1 .left),
     ))
-    (λ c κs. c .before .before .before .before .before .pre) (search needs)
-    (λ c.
-    let a = c .before .before .before .before .before .before .before .args in
-    later-fetch _ (a .c) (a .s) _ _ (a .v) (a .self) _ (ne-eqb _ _ (c .before .before .before .before .if1 .left))
-    (ne-eqb _ _ (c .before .before .before .if2 .left))
-    (c .before .before .if3 .taken)
-    (c .before .is-defined .ensures)
-    (c .fetched .ensures))
-    (λ c κs. c .before .before .before .before .before .pre) (search needs)
-    (λ c.
-    let a = c .before .before .before .before .before .before .before .args in
-    later-onward _ _ (a .c) (a .s) _ (a .v) (a .self) _ (ne-eqb _ _ (c .before .before .before .before .if1 .left))
-    (ne-eqb _ _ (c .before .before .before .if2 .left))
-    (c .before .before .if3 .left)
-    (c .before .cycle-at .ensures)
-    (c .onward .ensures)))
+    (λ c κs. c .before .before .before .before .before .pre) (search needs) fetches
+    (λ c κs. c .before .before .before .before .before .pre) (search needs) goes-on)

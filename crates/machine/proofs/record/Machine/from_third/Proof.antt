@@ -1,14 +1,14 @@
--- `machine::record::Machine::onward` meets its contract.
+-- `machine::record::Machine::from_third` meets its contract.
 -- Assumes nothing.
 use mathlib.Core.Path.{refl, sym, _∙_}
 use mathlib.Core.Bool.{true, false}
 use borrow.Author.Needs.{needs}
 use Rattle.machine.proofs.Onward.{onward-once}
-use Rattle.machine.proofs.record.Machine.onward.Statement.{statement}
-use Rattle.machine.proofs.record.Machine.onward.Tie as tie
+use Rattle.machine.proofs.record.Machine.from_third.Statement.{statement}
+use Rattle.machine.proofs.record.Machine.from_third.Tie as tie
 
-pub onward-spec : {M : Type 1} → statement M
-onward-spec =
+pub from-third-spec : {M : Type 1} → statement M
+from-third-spec =
     tie.close
     (tie.spec (search needs) (search needs) (search needs) (search needs) (search needs)
     (λ c.
