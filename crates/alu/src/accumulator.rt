@@ -7,7 +7,7 @@ use crate::flags::bit;
 use crate::flags::with_cy;
 
 // RLC: left, bit 7 into bit 0 and CY.
-pub fn rlc(a: u8, f: Flags) -> Flagged
+pub(crate) fn rlc(a: u8, f: Flags) -> Flagged
     ensures { λ r. ⌜ r ≡ rlcOf a f ⌝ }
 {
     Flagged {
@@ -17,7 +17,7 @@ pub fn rlc(a: u8, f: Flags) -> Flagged
 }
 
 // RRC: right, bit 0 into bit 7 and CY.
-pub fn rrc(a: u8, f: Flags) -> Flagged
+pub(crate) fn rrc(a: u8, f: Flags) -> Flagged
     ensures { λ r. ⌜ r ≡ rrcOf a f ⌝ }
 {
     Flagged {
@@ -27,7 +27,7 @@ pub fn rrc(a: u8, f: Flags) -> Flagged
 }
 
 // RAL: left through CY.
-pub fn ral(a: u8, f: Flags) -> Flagged
+pub(crate) fn ral(a: u8, f: Flags) -> Flagged
     ensures { λ r. ⌜ r ≡ ralOf a f ⌝ }
 {
     Flagged {
@@ -37,7 +37,7 @@ pub fn ral(a: u8, f: Flags) -> Flagged
 }
 
 // RAR: right through CY.
-pub fn rar(a: u8, f: Flags) -> Flagged
+pub(crate) fn rar(a: u8, f: Flags) -> Flagged
     ensures { λ r. ⌜ r ≡ rarOf a f ⌝ }
 {
     Flagged {
@@ -47,7 +47,7 @@ pub fn rar(a: u8, f: Flags) -> Flagged
 }
 
 // CMA: each bit turned over; no flag.
-pub fn cma(a: u8, f: Flags) -> Flagged
+pub(crate) fn cma(a: u8, f: Flags) -> Flagged
     ensures { λ r. ⌜ r ≡ cmaOf a f ⌝ }
 {
     Flagged {
@@ -57,7 +57,7 @@ pub fn cma(a: u8, f: Flags) -> Flagged
 }
 
 // STC: CY set; A stays.
-pub fn stc(a: u8, f: Flags) -> Flagged
+pub(crate) fn stc(a: u8, f: Flags) -> Flagged
     ensures { λ r. ⌜ r ≡ stcOf a f ⌝ }
 {
     Flagged {
@@ -67,7 +67,7 @@ pub fn stc(a: u8, f: Flags) -> Flagged
 }
 
 // CMC: CY turned over; A stays.
-pub fn cmc(a: u8, f: Flags) -> Flagged
+pub(crate) fn cmc(a: u8, f: Flags) -> Flagged
     ensures { λ r. ⌜ r ≡ cmcOf a f ⌝ }
 {
     Flagged {

@@ -26,7 +26,7 @@ pub fn bit(c: bool) -> u8
 
 // Whether the number of ones in the byte is even: bit n of row h of the table, of four rows of 64 bits, is the parity of
 // 64 h + n. The rows are the arms of a `match`, which is read in place; a constant array would be copied at each use.
-pub fn parity(v: u8) -> bool
+pub(crate) fn parity(v: u8) -> bool
     ensures { λ r. ⌜ r ≡ parityOf v ⌝ }
 {
     let n = v % 64;
@@ -39,7 +39,7 @@ pub fn parity(v: u8) -> bool
 }
 
 // A byte with the S, Z and P of its value, and the given AC and CY.
-pub fn result(v: u8, ac: bool, cy: bool) -> Flagged
+pub(crate) fn result(v: u8, ac: bool, cy: bool) -> Flagged
     ensures { λ r. ⌜ r ≡ resultOf v ac cy ⌝ }
 {
     Flagged {

@@ -1,7 +1,7 @@
 // The arithmetic of the 8080: bytes, flags and 16-bit numbers. Nothing here knows a register.
-pub mod accumulator;
+mod accumulator;
 pub mod flags;
 pub mod groups;
-pub mod logic;
+mod logic;
 pub mod sums;
 pub mod words;

@@ -12,21 +12,21 @@ fn and_carry(a: u8, b: u8) -> bool
 }
 
 // ANA.
-pub fn ana(a: u8, b: u8) -> Flagged
+pub(crate) fn ana(a: u8, b: u8) -> Flagged
     ensures { λ r. ⌜ r ≡ anaOf a b ⌝ }
 {
     result(a & b, and_carry(a, b), false)
 }
 
 // XRA.
-pub fn xra(a: u8, b: u8) -> Flagged
+pub(crate) fn xra(a: u8, b: u8) -> Flagged
     ensures { λ r. ⌜ r ≡ xraOf a b ⌝ }
 {
     result(a ^ b, false, false)
 }
 
 // ORA.
-pub fn ora(a: u8, b: u8) -> Flagged
+pub(crate) fn ora(a: u8, b: u8) -> Flagged
     ensures { λ r. ⌜ r ≡ oraOf a b ⌝ }
 {
     result(a | b, false, false)

@@ -21,7 +21,7 @@ fn half_carry(a: u8, b: u8, c: bool) -> bool
 }
 
 // ADD, and ADC with the carry.
-pub fn add(a: u8, b: u8, c: bool) -> Flagged
+pub(crate) fn add(a: u8, b: u8, c: bool) -> Flagged
     ensures { λ r. ⌜ r ≡ addOf a b c ⌝ }
 {
     let total = sum(a, b, c);
@@ -29,7 +29,7 @@ pub fn add(a: u8, b: u8, c: bool) -> Flagged
 }
 
 // SUB, and SBB with the borrow: the complement and 1 less the borrow are added.
-pub fn sub(a: u8, b: u8, c: bool) -> Flagged
+pub(crate) fn sub(a: u8, b: u8, c: bool) -> Flagged
     ensures { λ r. ⌜ r ≡ subOf a b c ⌝ }
 {
     let total = sum(a, 255 - b, !c);
@@ -38,7 +38,7 @@ pub fn sub(a: u8, b: u8, c: bool) -> Flagged
 }
 
 // CMP: the flags of the difference; the byte stays.
-pub fn cmp(a: u8, b: u8) -> Flagged
+pub(crate) fn cmp(a: u8, b: u8) -> Flagged
     ensures { λ r. ⌜ r ≡ cmpOf a b ⌝ }
 {
     let difference = sub(a, b, false);
@@ -74,7 +74,7 @@ pub fn dcr(v: u8, cy: bool) -> Flagged
 }
 
 // DAA: 6 is added for the low digit, then 96 for the high one, which is judged by the old A.
-pub fn daa(a: u8, ac: bool, cy: bool) -> Flagged
+pub(crate) fn daa(a: u8, ac: bool, cy: bool) -> Flagged
     ensures { λ r. ⌜ r ≡ daaOf a ac cy ⌝ }
 {
     let six = 6 * bit((9 < a % 16) | ac);

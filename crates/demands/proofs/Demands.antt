@@ -30,7 +30,7 @@ use Rattle.demands.proofs.Journeys.{now-begin}
 use Rattle.demands.proofs.Runs.{Ends, run-ends, ends-trip}
 use Rattle.demands.proofs.Once.{trip-one}
 use Rattle.demands.proofs.Done.{trip-run}
-use Rattle.demands.proofs.Fresh.{between-start}
+use Rattle.demands.proofs.Fresh.{beginning-start}
 use Rattle.demands.proofs.Calling.{reached-long, calls-reached}
 
 -- a run of k states that ends where a leg begins
@@ -52,7 +52,7 @@ instructions-done s inputs b b' k r w f =
     let E = outsideOf s inputs (b .machine) in
     let e : b' ≡ run E k b = l .board ∙ bridge s inputs k (worldOn b []) (l .time) in
     subst (Costs E b k) (sym e)
-    (costs-run E b k (between-start b (l .well) w) (ap (λ (x : Board). begins (x .machine .next)) (sym e) ∙ f))
+    (costs-run E b k (beginning-start b (l .well) w) (ap (λ (x : Board). begins (x .machine .next)) (sym e) ∙ f))
 
 pub forced-done : ForcedDone
 forced-done s inputs b b' q t h =

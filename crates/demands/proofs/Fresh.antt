@@ -57,9 +57,9 @@ place Halt e = inr refl
 place Stop e = absurd (false≢true e)
 
 -- a leg begins
-pub between-start : (b : Board) → T (wellOf (b .machine)) → Beginning (b .machine) → Start b
+pub beginning-start : (b : Board) → T (wellOf (b .machine)) → Beginning (b .machine) → Start b
 unfolding cyclesDone
-between-start b w (e, n) =
+beginning-start b w (e, n) =
     ⊎-elim
     (λ (f : b .machine .next ≡ Fetch).
     fetching f (kept-none (b .machine) (subst (λ p. ReadyAt (b .machine) (cyclesDone p)) f (parts-of (b .machine) w .ready)) n))

@@ -16,7 +16,7 @@ use Rattle.demands.specs.Board.{Board, boardOf}
 use Rattle.demands.specs.Calls.{worldOn, givenBack}
 use Rattle.demands.specs.Stopping.{Stopping, last, more, StopForced}
 use Rattle.demands.proofs.Bridge.{bridge, tracks-next}
-use Rattle.demands.proofs.Fresh.{between-start}
+use Rattle.demands.proofs.Fresh.{beginning-start}
 use Rattle.demands.proofs.Answered.{answer-good, good-time, good-well}
 use Rattle.demands.proofs.Calling.{same-boards, given-board, answered, runs-clock}
 use Rattle.demands.proofs.Undefined.{stops-run}
@@ -103,5 +103,5 @@ pub stop-forced : StopForced
 stop-forced s inputs b b' n c w =
     let x = stopping-halting s inputs b b' n c in
     let E = outsideOf s inputs (b .machine) in
-    stops-run E b b' (x .asked) n (between-start b (x .well) w) (x .board ∙ bridge s inputs (x .asked) (worldOn b []) (x .time))
+    stops-run E b b' (x .asked) n (beginning-start b (x .well) w) (x .board ∙ bridge s inputs (x .asked) (worldOn b []) (x .time))
     (x .stops) (x .clock)

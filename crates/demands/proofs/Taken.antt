@@ -20,7 +20,7 @@ use Rattle.demands.proofs.Journeys.{Now, now-begin}
 use Rattle.demands.proofs.Runs.{run-ends}
 use Rattle.demands.proofs.Facts.{now-facts}
 use Rattle.demands.proofs.Latency.{sum-same, ownFrom, own-stopped, soon}
-use Rattle.demands.proofs.Fresh.{between-start}
+use Rattle.demands.proofs.Fresh.{beginning-start}
 use Rattle.demands.proofs.Calling.{reached-long, run-clock}
 use Rattle.demands.proofs.Lines.{event-int}
 use Rattle.demands.proofs.Stays.{ends-start, stays, run-add}
@@ -101,4 +101,4 @@ module _ (s inputs : List ℕ) (b : Board) (n : ℕ) (time : b .machine .clock +
 pub soon-taken : SoonTaken
 soon-taken s inputs b b' n r w a i k l h =
     let x = reached-long s inputs b b' n r in
-    bounded s inputs b n (x .time) (between-start b (x .well) w) a i k l h
+    bounded s inputs b n (x .time) (beginning-start b (x .well) w) a i k l h

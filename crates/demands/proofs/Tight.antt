@@ -95,4 +95,4 @@ taken = (refl, refl)
 
 pub bound-met : BoundMet
 unfolding everything
-bound-met = record { between = (refl, refl); reached = reached; rises = rises; states = states; taken = taken }
+bound-met = record { beginning = (refl, refl); reached = reached; rises = rises; states = states; taken = taken }

@@ -34,7 +34,7 @@ after j = worldAt rising ports xthl j
 -- a run of 18 states from there is one of which the bound speaks; all 18 are neither waits nor holds; and then the acknowledge
 -- cycle begins
 pub record BoundMet : Type 0 where
-  pub between : Beginning (xthl .machine)
+  pub beginning : Beginning (xthl .machine)
   pub reached : Reached rising ports xthl 18 (boardOf (after 18))
   pub rises : Rises rising ports xthl 0 0 18
   pub states : sumBelow (λ j. own (after (0 + 0 + j) .machine .next)) 18 ≡ 18

@@ -70,7 +70,7 @@ pub(crate) fn with_flags(flags: Flags, r: Registers) -> Registers
 }
 
 // The pair p, of BC DE HL SP.
-pub fn pair(p: u8, r: Registers) -> u16
+pub(crate) fn pair(p: u8, r: Registers) -> u16
     ensures { λ v. ⌜ v ≡ pairOf p r ⌝ }
 {
     let all = [

@@ -34,7 +34,7 @@ fn fetch_kind(ack: Acknowledge) -> u8
 }
 
 // Whether a byte goes out.
-pub fn writes(code: u8) -> bool
+pub(crate) fn writes(code: u8) -> bool
     ensures { λ r. ⌜ r ≡ writesOf code ⌝ }
 {
     (OPERAND <= code) & (code < HALTING) & !(code % 16 == 0)
