@@ -11,9 +11,9 @@ use run::answer::number;
 use run::ran;
 
 // Document 01's numbers that are given here and not by `run` or `saved`.
-pub const DONE: u8 = 0;
+pub(crate) const DONE: u8 = 0;
 
-pub const ILL_FORMED: u8 = 8;
+pub(crate) const ILL_FORMED: u8 = 8;
 
 const CLOCK_RANGE: u8 = 9;
 
