@@ -21,7 +21,8 @@ enum {
     FEZ_ROW_BYTES = 8,
     FEZ_SAVED_BYTES = 65816,
     FEZ_MOST_EVENTS = 1000,
-    FEZ_MOST_STATES = 8192
+    FEZ_MOST_STATES = 8192,
+    FEZ_HEX_MOST_BYTES = 184333 /* the text of the whole memory in Intel HEX */
 };
 
 /* The numbers that the functions return. All but FEZ_DONE and FEZ_STOPPED are refusals: no byte of any buffer changes. */
@@ -40,7 +41,12 @@ enum {
     FEZ_INSIDE_INSTRUCTION = 11, /* saving: the machine is inside an instruction */
     FEZ_SAVED_SIZE = 12,         /* loading: not 65,816 bytes */
     FEZ_FIELD_RANGE = 13,        /* loading: a field is outside its range */
-    FEZ_OUTPUT_SIZE = 14         /* saving: output is not 65,816 bytes */
+    FEZ_OUTPUT_SIZE = 14,        /* saving: output is not 65,816 bytes */
+    FEZ_HEX_MALFORMED = 15,      /* reading Intel HEX: malformed line or wrong checksum */
+    FEZ_HEX_OTHER_TYPE = 16,     /* reading Intel HEX: a record's type is neither 00 nor 01 */
+    FEZ_HEX_PAST_END = 17,       /* Intel HEX: data, or a range to write, past hex FFFF */
+    FEZ_HEX_NO_END = 18,         /* reading Intel HEX: no end record */
+    FEZ_HEX_OUTPUT_SHORT = 19    /* writing Intel HEX: output shorter than the text */
 };
 
 /* Where things stand in a machine record of 64 bytes; docs/RECORD.md says which values they take. Bytes 21 to 23 and 33 to 63
@@ -94,6 +100,23 @@ uint8_t fez_save(const uint8_t *record, size_t record_bytes, const uint8_t *memo
    FEZ_ILL_FORMED where the record is not 64 bytes; then tests 12, 13, 1, 2. */
 uint8_t fez_load(uint8_t *record, size_t record_bytes, const uint8_t *saved, size_t saved_bytes, uint8_t *memory,
                  size_t memory_bytes, uint8_t *outputs, size_t outputs_bytes);
+
+/* Reads a text in Intel HEX, records of types 00 and 01, into memory; bytes that no record names stay. Lines end in LF or
+   CR LF, which the last may lack; digits may be of either case; what follows the end record is ignored. An end record with
+   data or a nonzero address is malformed. Tests 1; then 15, 16, 17 line by line up to the end record; then 18. Returns the
+   number and the line at fault, from 1 on, or 0 where no line is; take them out with fez_number and fez_line. */
+uint64_t fez_hex_read(const uint8_t *text, size_t text_bytes, uint8_t *memory, size_t memory_bytes);
+
+static inline uint64_t fez_line(uint64_t answer) { return answer / 256; }
+
+/* Writes `length` bytes of memory from `start` on as such a text: data records of 16 bytes, the last shorter, then the end
+   record, in capitals, lines with CR LF. That is two characters a byte, 13 more for each data record, and 13 for the end
+   record. Output past the text keeps its bytes. Tests 1, 17, 19. Returns the number and the characters written, 0 after a
+   refusal; take them out with fez_number and fez_written. */
+uint64_t fez_hex_write(const uint8_t *memory, size_t memory_bytes, size_t start, size_t length, uint8_t *out,
+                       size_t out_bytes);
+
+static inline uint64_t fez_written(uint64_t answer) { return answer / 256; }
 
 /* For a caller that is the bus itself: what the state that comes next asks, and one state with this byte on the bus.
    fez_step tests 8, 9, 10, and changes nothing where it does not return FEZ_DONE; the levels are the record's bytes 18 to 20,

@@ -56,6 +56,20 @@ mod c {
             outputs: *mut u8,
             outputs_length: usize,
         ) -> u8;
+        pub fn fez_hex_read(
+            text: *const u8,
+            text_length: usize,
+            memory: *mut u8,
+            memory_length: usize,
+        ) -> u64;
+        pub fn fez_hex_write(
+            memory: *const u8,
+            memory_length: usize,
+            start: usize,
+            length: usize,
+            out: *mut u8,
+            out_length: usize,
+        ) -> u64;
     }
 }
 
@@ -148,6 +162,31 @@ pub fn load(record: &mut [u8], saved: &[u8], memory: &mut [u8], outputs: &mut [u
             memory.len(),
             outputs.as_mut_ptr(),
             outputs.len(),
+        )
+    }
+}
+
+/// Reads a text in Intel HEX into memory: the number (0, 1, 15, 16, 17 or 18), and 256 times the
+/// line at fault, which is 0 where no line is.
+pub fn hex_read(text: &[u8], memory: &mut [u8]) -> u64 {
+    // SAFETY: proved for all bytes and lengths; each pointer and length are those of one slice,
+    // and `memory` is borrowed alone.
+    unsafe { c::fez_hex_read(text.as_ptr(), text.len(), memory.as_mut_ptr(), memory.len()) }
+}
+
+/// Writes so many bytes of memory from `start` on as a text in Intel HEX: the number (0, 1, 17 or
+/// 19), and 256 times the characters written.
+pub fn hex_write(memory: &[u8], start: usize, length: usize, out: &mut [u8]) -> u64 {
+    // SAFETY: proved for all bytes, lengths and ranges; each pointer and length are those of one
+    // slice, and `out` is borrowed alone.
+    unsafe {
+        c::fez_hex_write(
+            memory.as_ptr(),
+            memory.len(),
+            start,
+            length,
+            out.as_mut_ptr(),
+            out.len(),
         )
     }
 }

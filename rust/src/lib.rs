@@ -25,11 +25,12 @@
 //!
 //! Rules worth knowing: a run does at most 8,192 states a call, and a longer one is several calls
 //! with the same schedule, since a state's number is the clock before it. [`Machine::run_lent`]
-//! takes buffers of your own, and [`ffi`] the bare functions.
+//! takes buffers of your own, and [`ffi`] the bare functions. [`hex`] reads and writes Intel HEX.
 
 mod board;
 pub mod ffi;
 mod flags;
+pub mod hex;
 mod machine;
 mod refusal;
 mod registers;

@@ -2,7 +2,7 @@
 
 use std::fmt;
 
-/// Why a run, a save or a load was refused, with the paper's number. Nothing has changed then.
+/// Why a function refused what it was asked, with the paper's number. Nothing has changed then.
 ///
 /// 0 is done and 10 is a stop, so neither is here.
 ///
@@ -43,11 +43,22 @@ pub enum Refusal {
     FieldRange = 13,
     /// Saving: the output is not 65,816 bytes.
     OutputSize = 14,
+    /// Intel HEX: a line is malformed, an end record with data or a nonzero address too, or its
+    /// checksum is wrong.
+    HexMalformed = 15,
+    /// Intel HEX: a record's type is neither 00 nor 01.
+    HexOtherType = 16,
+    /// Intel HEX: data, or a range to write, go past hex FFFF.
+    HexPastEnd = 17,
+    /// Intel HEX: there is no end record.
+    HexNoEnd = 18,
+    /// Intel HEX: the output is shorter than the text.
+    HexOutputShort = 19,
 }
 
 impl Refusal {
     /// All refusals, by rising number.
-    pub const ALL: [Refusal; 13] = [
+    pub const ALL: [Refusal; 18] = [
         Refusal::MemorySize,
         Refusal::PortSize,
         Refusal::ScheduleLength,
@@ -61,6 +72,11 @@ impl Refusal {
         Refusal::SavedSize,
         Refusal::FieldRange,
         Refusal::OutputSize,
+        Refusal::HexMalformed,
+        Refusal::HexOtherType,
+        Refusal::HexPastEnd,
+        Refusal::HexNoEnd,
+        Refusal::HexOutputShort,
     ];
 
     /// The paper's number.
@@ -68,7 +84,7 @@ impl Refusal {
         self as u8
     }
 
-    /// The refusal of a number, none for 0, 10 and those past 14.
+    /// The refusal of a number, none for 0, 10 and those past 19.
     pub fn from_number(number: u8) -> Option<Refusal> {
         Refusal::ALL.into_iter().find(|r| r.number() == number)
     }
@@ -89,6 +105,11 @@ impl Refusal {
             Refusal::SavedSize => "a saved machine is 65,816 bytes, this is not",
             Refusal::FieldRange => "a field of the saved machine is outside its range",
             Refusal::OutputSize => "the output for a saved machine is not 65,816 bytes",
+            Refusal::HexMalformed => "malformed line or wrong checksum",
+            Refusal::HexOtherType => "a record's type is neither 00 nor 01",
+            Refusal::HexPastEnd => "data, or a range to write, past hex FFFF",
+            Refusal::HexNoEnd => "no end record",
+            Refusal::HexOutputShort => "output shorter than the text",
         }
     }
 

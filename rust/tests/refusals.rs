@@ -246,7 +246,9 @@ fn a_record_has_64_bytes() {
 
 #[test]
 fn numbers_and_refusals_name_each_other() {
-    let numbers = [1, 2, 3, 4, 5, 6, 7, 8, 9, 11, 12, 13, 14];
+    let numbers = [
+        1, 2, 3, 4, 5, 6, 7, 8, 9, 11, 12, 13, 14, 15, 16, 17, 18, 19,
+    ];
     assert_eq!(Refusal::ALL.map(Refusal::number), numbers);
     for number in 0..=255 {
         let named = Refusal::from_number(number).map(Refusal::number);

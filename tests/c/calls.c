@@ -204,6 +204,55 @@ static void save_inside(void)
     CHECK(unchanged());
 }
 
+static uint64_t hex_read(const char *text)
+{
+    return fez_hex_read((const uint8_t *)text, strlen(text), m.memory, sizeof m.memory);
+}
+
+static void hex_in(void)
+{
+    sample();
+    CHECK(hex_read("") == FEZ_HEX_NO_END);
+    CHECK(fez_hex_read(NULL, 0, m.memory, sizeof m.memory) == FEZ_HEX_NO_END);
+    CHECK(fez_hex_read(NULL, 0, m.memory, 65535) == FEZ_MEMORY_SIZE);
+    CHECK(hex_read(":01000000AA55\n:00000001FE\n") == FEZ_HEX_MALFORMED + 256 * 2);
+    CHECK(hex_read(":020000040000FA\r\n:00000001FF") == FEZ_HEX_OTHER_TYPE + 256);
+    uint64_t answer = hex_read(":01000000AA55\n:01FFFF00AA57\r\n:02FFFF00AABB9B\n\n");
+    CHECK(fez_number(answer) == FEZ_HEX_PAST_END && fez_line(answer) == 3);
+    CHECK(unchanged());
+    CHECK(hex_read(":02FFFE00aabb9c\n:01000000AA55\r\n:00000001FF") == FEZ_DONE);
+    before.memory[0xFFFE] = 0xAA;
+    before.memory[0xFFFF] = 0xBB;
+    before.memory[0] = 0xAA;
+    CHECK(unchanged());
+}
+
+static void hex_out(void)
+{
+    static uint8_t out[FEZ_HEX_MOST_BYTES + 1];
+    static const char text[] = ":030000003E057644\r\n:00000001FF\r\n";
+    size_t length = strlen(text);
+    sample();
+    memset(out, 0xEE, sizeof out);
+    CHECK(fez_hex_write(m.memory, 65537, 0, 65537, NULL, 0) == FEZ_MEMORY_SIZE);
+    CHECK(fez_hex_write(m.memory, sizeof m.memory, 65535, 2, NULL, 0) == FEZ_HEX_PAST_END);
+    CHECK(fez_hex_write(m.memory, sizeof m.memory, SIZE_MAX, SIZE_MAX, out, sizeof out) == FEZ_HEX_PAST_END);
+    CHECK(fez_hex_write(m.memory, sizeof m.memory, 0, 0, NULL, 0) == FEZ_HEX_OUTPUT_SHORT);
+    CHECK(fez_hex_write(m.memory, sizeof m.memory, 0, 3, out, length - 1) == FEZ_HEX_OUTPUT_SHORT);
+    CHECK(out[0] == 0xEE);
+    uint64_t answer = fez_hex_write(m.memory, sizeof m.memory, 0, 3, out, sizeof out);
+    CHECK(fez_number(answer) == FEZ_DONE && fez_written(answer) == length);
+    CHECK(memcmp(out, text, length) == 0 && out[length] == 0xEE);
+    CHECK(unchanged());
+
+    answer = fez_hex_write(m.memory, sizeof m.memory, 0, sizeof m.memory, out, sizeof out);
+    CHECK(fez_number(answer) == FEZ_DONE && fez_written(answer) == FEZ_HEX_MOST_BYTES);
+    CHECK(out[FEZ_HEX_MOST_BYTES - 1] == '\n' && out[FEZ_HEX_MOST_BYTES] == 0xEE);
+    memset(m.memory, 0xAA, sizeof m.memory);
+    CHECK(fez_hex_read(out, FEZ_HEX_MOST_BYTES, m.memory, sizeof m.memory) == FEZ_DONE);
+    CHECK(unchanged());
+}
+
 int main(void)
 {
     cold_record();
@@ -222,6 +271,8 @@ int main(void)
     undefined_opcode();
     save_and_load();
     save_inside();
+    hex_in();
+    hex_out();
     printf("calls: %u checks, %u failures\n", checks, failures);
     return failures == 0 ? 0 : 1;
 }

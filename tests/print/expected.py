@@ -1,5 +1,5 @@
 #!/usr/bin/env python3
-"""Writes NAME.in and NAME.out for each case of this folder: the program, and what document 01 says is printed for it.
+"""Writes NAME.in or NAME.hex and NAME.out for each case of this folder: the program, and what document 01 says is printed for it.
 
 A plain model of the few instructions that the cases use, written from document 01 (Cycles, Trace, the printing program) and
 Intel's manual, apart from the crates. It is no part of the gate, which only compares the stored files.
@@ -178,6 +178,17 @@ CASES = {
     "internal": bytes.fromhex("210001 36FF 34 29 76"),
 }
 
+# pieces of memory, as Intel HEX
+HEX = {
+    # a jump to hex F000, where A is loaded
+    "far": {0x0000: bytes.fromhex("C300F0"), 0xF000: bytes.fromhex("3E05 76")},
+}
+
+
+def record(kind, address, data):
+    body = bytes([len(data), address // 256, address % 256, kind]) + data
+    return ":%s%02X\r\n" % (body.hex().upper(), -sum(body) % 256)
+
 
 def main():
     here = os.path.dirname(os.path.abspath(__file__))
@@ -186,6 +197,14 @@ def main():
             file.write(program)
         with open(os.path.join(here, name + ".out"), "w") as file:
             file.write(Chip(program).listing())
+    for name, pieces in HEX.items():
+        chip = Chip(b"")
+        for address, data in pieces.items():
+            chip.memory[address:address + len(data)] = data
+        with open(os.path.join(here, name + ".hex"), "w", newline="") as file:
+            file.write("".join(record(0, address, data) for address, data in pieces.items()) + record(1, 0, b""))
+        with open(os.path.join(here, name + ".out"), "w") as file:
+            file.write(chip.listing())
 
 
 main()

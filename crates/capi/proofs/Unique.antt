@@ -4,7 +4,7 @@ use Prim.Native.Nat.{ℕ}
 use mathlib.Core.Path.{_≡_}
 use mathlib.Core.List.{List}
 use Rattle.laws.proofs.Unique.{one-value}
-use Rattle.capi.specs.Calls.{ColdCall, StepCall, RunCall, SaveCall, LoadCall}
+use Rattle.capi.specs.Calls.{ColdCall, StepCall, RunCall, SaveCall, LoadCall, HexReadCall, HexWriteCall}
 
 pub cold-unique : (z : List ℕ) (r r' : ℕ) (z₁ z₂ : List ℕ) → ColdCall z r z₁ → ColdCall z r' z₂ → (r ≡ r') × (z₁ ≡ z₂)
 cold-unique z r r' z₁ z₂ p q = (one-value (p .answer) (q .answer), one-value (p .machine) (q .machine))
@@ -36,3 +36,11 @@ load-unique z s x o r r' z₁ x₁ o₁ z₂ x₂ o₂ p q = (
   one-value (p .memory) (q .memory),
   one-value (p .outputs) (q .outputs),
 )
+
+pub hex-read-unique : (t x : List ℕ) (r r' : ℕ) (x₁ x₂ : List ℕ) → HexReadCall t x r x₁ → HexReadCall t x r' x₂
+    → (r ≡ r') × (x₁ ≡ x₂)
+hex-read-unique t x r r' x₁ x₂ p q = (one-value (p .answer) (q .answer), one-value (p .memory) (q .memory))
+
+pub hex-write-unique : (x : List ℕ) (start n : ℕ) (f : List ℕ) (r r' : ℕ) (f₁ f₂ : List ℕ) → HexWriteCall x start n f r f₁
+    → HexWriteCall x start n f r' f₂ → (r ≡ r') × (f₁ ≡ f₂)
+hex-write-unique x start n f r r' f₁ f₂ p q = (one-value (p .answer) (q .answer), one-value (p .output) (q .output))

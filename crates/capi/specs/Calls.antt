@@ -1,4 +1,4 @@
--- What each C function answers and leaves, for all inputs. Source: document 01, "Numbers returned", and docs/RECORD.md.
+-- What each C function answers and leaves, for all inputs. Source: document 01, "Numbers returned"; docs/RECORD.md; request W1.
 -- Cited by the public functions. z is the record that is handed in, r the answer; a prime marks a list afterwards.
 use Prim.Native.Nat.{ℕ}
 use mathlib.Core.Path.{_≡_}
@@ -21,9 +21,13 @@ use Rattle.saved.specs.Fields.{machineIn, portsIn, memoryIn}
 use Rattle.saved.specs.Answer.{savingNumber}
 use Rattle.saved.specs.Check.{pass, saveVerdict, loadVerdict}
 use Rattle.saved.specs.Outcome.{filledBy, savingBy}
+use Rattle.hex.specs.Read.{readingOf}
+use Rattle.hex.specs.Write.{hexOf, rangeOf, writingOf}
+use Rattle.hex.specs.Answer.{readingNumber, readingLine, writingNumber, writingLength}
+use Rattle.hex.specs.Outcome.{memoryBy, outputBy}
 use Rattle.capi.specs.Flat.{flatOf, recordWith}
 use Rattle.capi.specs.Handed.{handedOf}
-use Rattle.capi.specs.Numbers.{requestNumber, stepNumber, runNumber}
+use Rattle.capi.specs.Numbers.{requestNumber, stepNumber, runNumber, besideOf}
 
 -- a cold machine: 0, or 8 where z is no record
 pub record ColdCall (z : List ℕ) (r : ℕ) (z' : List ℕ) : Type 0 where
@@ -68,3 +72,13 @@ pub record LoadCall (z s x o : List ℕ) (r : ℕ) (z' x' o' : List ℕ) : Type 
   pub machine : z' ≡ filledBy (loadCallVerdict z s x o) (flatOf (machineIn s)) z
   pub memory : x' ≡ filledBy (loadCallVerdict z s x o) (memoryIn s) x
   pub outputs : o' ≡ filledBy (loadCallVerdict z s x o) (portsIn s) o
+
+-- reading an Intel HEX text t into memory x: the number, and the line at fault beside it
+pub record HexReadCall (t x : List ℕ) (r : ℕ) (x' : List ℕ) : Type 0 where
+  pub answer : r ≡ besideOf (readingNumber (readingOf t (length x))) (readingLine (readingOf t (length x)))
+  pub memory : x' ≡ memoryBy (readingOf t (length x)) t x
+
+-- writing n bytes of memory x from start on into the output f: the number, and the length of the text beside it
+pub record HexWriteCall (x : List ℕ) (start n : ℕ) (f : List ℕ) (r : ℕ) (f' : List ℕ) : Type 0 where
+  pub answer : r ≡ besideOf (writingNumber (writingOf (length x) start n (length f))) (writingLength (writingOf (length x) start n (length f)))
+  pub output : f' ≡ outputBy (writingOf (length x) start n (length f)) (hexOf start (rangeOf x start n)) f

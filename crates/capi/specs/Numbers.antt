@@ -1,6 +1,6 @@
 -- What the C functions answer, as numbers. Source: document 01, "Numbers returned", and docs/RECORD.md. Cited by
 -- `capi::number` and by `Calls`.
-use Prim.Native.Nat.{ℕ, _+_, _*_}
+use Prim.Native.Nat.{ℕ, _+_, _*_, _%_}
 use lib.Dec.{eqb}
 use Rattle.laws.specs.Choice.{pick}
 use Rattle.machine.specs.declared.record.Machine.{Machine}
@@ -27,3 +27,7 @@ stepNumber m = pick (wellOf m) (pick (eqb (m .clock) 4294967295) 9 (pick (stoppe
 -- a run's answer: its number, and 256 times the states done
 unfoldable pub runNumber : Answer → ℕ
 runNumber a = numberOf a + 256 * ranOf a .states
+
+-- a number with a count beside it: the number, and 256 times the count, modulo 2^64; no text has 2^56 lines or characters
+unfoldable pub besideOf : ℕ → ℕ → ℕ
+besideOf number count = number + 256 * (count % 0x100000000000000)

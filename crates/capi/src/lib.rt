@@ -3,15 +3,20 @@
 ghost use mathlib.Core.Path.{_≡_};
 ghost use Rattle.machine.specs.Well.{wellOf};
 ghost use Rattle.capi.specs.Handed.{handedOf};
-ghost use Rattle.capi.specs.Calls.{requestCall, ColdCall, StepCall, RunCall, SaveCall, LoadCall};
+ghost use Rattle.capi.specs.Calls.{requestCall, ColdCall, StepCall, RunCall, SaveCall, LoadCall, HexReadCall, HexWriteCall};
 use crate::flat::put_answer;
 use crate::flat::record_with;
 use crate::handed::handed;
 use crate::number::DONE;
 use crate::number::ILL_FORMED;
+use crate::number::beside;
 use crate::number::request_number;
 use crate::number::run_number;
 use crate::number::step_number;
+use hex::answer::reading_line;
+use hex::answer::reading_number;
+use hex::answer::writing_length;
+use hex::answer::writing_number;
 use machine::record::Machine;
 use run::Asked;
 use saved::answer::Loading;
@@ -118,4 +123,24 @@ pub extern "C" fn fez_load(z: &mut [u8], s: &[u8], memory: &mut [u8], outputs: &
             machine: _,
         } => loading_number(loading),
     }
+}
+
+// The records of an Intel HEX text go into 65,536 bytes of memory: 0, or a refusal that changes nothing; and 256 times the line
+// at fault, 0 where no line is.
+#[no_mangle]
+pub extern "C" fn fez_hex_read(text: &[u8], memory: &mut [u8]) -> u64
+    ensures { λ r. ⌜ HexReadCall (now (text .entry)) (now (memory .entry)) r (now (memory .exit)) ⌝ }
+{
+    let answer = hex::read(text, memory);
+    beside(reading_number(answer), reading_line(answer))
+}
+
+// The length bytes of memory from start on go into the output as an Intel HEX text: 0, or a refusal that changes nothing; and
+// 256 times the characters written.
+#[no_mangle]
+pub extern "C" fn fez_hex_write(memory: &[u8], start: usize, length: usize, out: &mut [u8]) -> u64
+    ensures { λ r. ⌜ HexWriteCall (now (memory .entry)) start length (now (out .entry)) r (now (out .exit)) ⌝ }
+{
+    let answer = hex::write(memory, start, length, out);
+    beside(writing_number(answer), writing_length(answer))
 }

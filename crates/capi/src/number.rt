@@ -2,7 +2,7 @@
 ghost use mathlib.Core.Path.{_≡_};
 ghost use Prim.Native.Nat.{_≤_};
 ghost use Rattle.run.specs.Answer.{ranOf};
-ghost use Rattle.capi.specs.Numbers.{requestNumber, stepNumber, runNumber};
+ghost use Rattle.capi.specs.Numbers.{requestNumber, stepNumber, runNumber, besideOf};
 use machine::record::Machine;
 use machine::record::stopped;
 use machine::request::Request;
@@ -59,4 +59,11 @@ pub(crate) fn run_number(a: Answer) -> u64
     ensures { λ r. ⌜ r ≡ runNumber a ⌝ }
 {
     (number(a) as u64) + 256 * (ran(a).states as u64)
+}
+
+// A number with a count beside it: the number, and 256 times the count, of which 56 bits count.
+pub(crate) fn beside(number: u8, count: usize) -> u64
+    ensures { λ r. ⌜ r ≡ besideOf number count ⌝ }
+{
+    (number as u64) + 256 * ((count % 0x100000000000000) as u64)
 }

@@ -1,19 +1,10 @@
--- Lines that document 01 prints for 3E 05 76, and a few numbers. Each side is computed.
+-- Lines that document 01 prints for 3E 05 76. Each side is computed.
 -- Assumes nothing.
 use Prim.Native.Nat.{ℕ}
 use mathlib.Core.Path.{_≡_, refl}
 use mathlib.Core.List.{List, [], _∷_}
-use Rattle.listing.specs.Numbers.{digitOf, byteOf, decimalIn, decimalOf}
+use Rattle.text.specs.Numbers.{digitOf, byteOf, decimalIn, decimalOf}
 use Rattle.listing.specs.Lines.{nameOf, stateLineOf, lastLineOf}
-
--- "4095" and "0"
-decimal-4095 : decimalOf 4095 ≡ 52 ∷ 48 ∷ 57 ∷ 53 ∷ []
-unfolding decimalOf decimalIn digitOf
-decimal-4095 = refl
-
-decimal-0 : decimalOf 0 ≡ 48 ∷ []
-unfolding decimalOf decimalIn digitOf
-decimal-0 = refl
 
 -- "2 T3 1 0000 3E", "11 T1 9 0003 00" and a hold, "15 HOLD 2 0000 00"
 fetched : stateLineOf 2 (3 ∷ 1 ∷ 0 ∷ 0 ∷ 62 ∷ 0 ∷ 1 ∷ 1 ∷ [])

@@ -11,14 +11,14 @@ use lib.Seq.{getD-drop}
 use lib.Dec.{eqb}
 use Rattle.laws.specs.Choice.{pick}
 use Rattle.laws.proofs.Order.{lt-or-le}
-use Rattle.listing.specs.Text.{Text, textOf, writtenOf}
-use Rattle.listing.specs.Numbers.{byteOf, decimalOf}
+use Rattle.text.specs.Text.{Text, textOf, writtenOf}
+use Rattle.text.specs.Numbers.{byteOf, decimalOf}
 use Rattle.listing.specs.Lines.{tw, hold, halt, nameOf, stateLineOf, lastLineOf}
 use Rattle.listing.specs.Listing.{beforeHaltOf, stateLinesOf, listingOf, Lists}
-use Rattle.listing.proofs.Decimal.{decimal-small, decimal-large}
+use Rattle.text.proofs.Decimal.{decimal-small, decimal-large}
 use Rattle.listing.proofs.Halt.{rows-within}
-use Rattle.listing.proofs.Written.{both}
-use Rattle.listing.proofs.Room.{whole}
+use Rattle.text.proofs.Written.{both}
+use Rattle.text.proofs.Room.{whole}
 
 -- the numbers of k digits lie below tens k
 abbrev tens : ℕ → ℕ

@@ -6,10 +6,10 @@ use mathlib.Core.List.{List, _++_}
 use native.Mathlib.Omega.{arith}
 use lib.ListN.{length, take, drop, length-drop}
 use lib.Seq.{take-all}
-use Rattle.listing.specs.Text.{Text, writtenOf}
+use Rattle.text.specs.Text.{Text, writtenOf}
 use Rattle.listing.specs.Lines.{stateLineOf}
 use Rattle.listing.specs.Listing.{stateLinesOf}
-use Rattle.listing.proofs.Written.{written-none, written-both}
+use Rattle.text.proofs.Written.{written-none, written-both}
 
 suc-less : (k : ℕ) → suc k - 1 ≡ k
 suc-less k = omega arith

@@ -4,14 +4,11 @@ use mathlib.Core.List.{List, [], _∷_, _++_}
 use lib.ListN.{getD}
 use lib.Dec.{eqb}
 use Rattle.laws.specs.Choice.{pick}
-use Rattle.listing.specs.Numbers.{byteOf, decimalOf}
+use Rattle.text.specs.Text.{feed}
+use Rattle.text.specs.Numbers.{byteOf, decimalOf}
 
--- a blank, and the end of a line
 abbrev pub blank : ℕ
 blank = 32
-
-abbrev pub feed : ℕ
-feed = 10
 
 -- the words TW, HOLD and HALT, and those of the last line: "A ", " PC ", " STATES "
 abbrev pub tw : List ℕ

@@ -5,7 +5,7 @@ use mathlib.Core.List.{List, [], _++_}
 use lib.ListN.{length, getD, drop}
 use lib.Dec.{eqb}
 use Rattle.laws.specs.Choice.{pick}
-use Rattle.listing.specs.Text.{textOf, writtenOf}
+use Rattle.text.specs.Text.{textOf, writtenOf}
 use Rattle.listing.specs.Lines.{stateLineOf, lastLineOf}
 
 -- the number of the first halt state among the n states from i on, or i + n

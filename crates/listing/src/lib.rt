@@ -2,14 +2,12 @@
 ghost use mathlib.Core.Path.{_≡_};
 ghost use Prim.Native.Nat.{_*_, _≤_, min};
 ghost use lib.ListN.{length};
-ghost use Rattle.listing.specs.Text.{textOf, writtenOf};
+ghost use Rattle.text.specs.Text.{textOf, writtenOf};
 ghost use Rattle.listing.specs.Listing.{beforeHaltOf, stateLinesOf, Lists};
 use crate::lines::last_line;
 use crate::lines::state_line;
 
 mod lines;
-mod numbers;
-mod text;
 
 // The smaller of two numbers.
 fn least(a: usize, b: usize) -> usize

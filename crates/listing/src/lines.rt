@@ -1,12 +1,12 @@
 // The lines of a listing.
 ghost use mathlib.Core.Path.{_≡_};
 ghost use lib.ListN.{getD};
-ghost use Rattle.listing.specs.Text.{textOf, writtenOf};
+ghost use Rattle.text.specs.Text.{textOf, writtenOf};
 ghost use Rattle.listing.specs.Lines.{nameOf, stateLineOf, lastLineOf};
-use crate::numbers::byte;
-use crate::numbers::decimal;
-use crate::text::put;
-use crate::text::write;
+use text::numbers::byte;
+use text::numbers::decimal;
+use text::put;
+use text::write;
 
 // The name of a state code. Codes that the paper does not list stand after a T.
 fn name(out: &mut [u8], at: usize, code: u8) -> usize

@@ -11,7 +11,7 @@ use Rattle.run.specs.declared.answer.Ran.{Ran}
 use Rattle.run.specs.declared.answer.Answer.{Answer}
 use Rattle.run.specs.Answer.{ranOf}
 use Rattle.run.specs.Outcome.{Outcome}
-use Rattle.listing.specs.Text.{textOf, writtenOf}
+use Rattle.text.specs.Text.{textOf, writtenOf}
 use Rattle.listing.specs.Listing.{listingOf, Lists}
 use Rattle.print_states.specs.Printed.{worldAfter, ranAfter, printedOf, Printed}
 

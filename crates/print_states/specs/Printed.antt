@@ -8,7 +8,7 @@ use Rattle.run.specs.declared.answer.Ran.{Ran}
 use Rattle.run.specs.Run.{World}
 use Rattle.run.specs.Answer.{ranOf}
 use Rattle.run.specs.Outcome.{startOf, leftOf, answerOf}
-use Rattle.listing.specs.Text.{textOf, writtenOf}
+use Rattle.text.specs.Text.{textOf, writtenOf}
 use Rattle.listing.specs.Listing.{listingOf}
 
 -- "all ports 0, starts cold without events, and stops .. after 4,096 states": what such a run over memory x leaves, and its answer

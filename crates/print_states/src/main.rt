@@ -1,8 +1,13 @@
 // Prints the states of the program that standard input holds: a line each, up to a halt, a stop or 4,096 states, and a last
-// line with A, PC and the number of states.
+// line with A, PC and the number of states. With an argument, standard input is an Intel HEX text.
 ghost use mathlib.Core.Path.{_≡_};
 ghost use lib.ListN.{length};
 ghost use Rattle.print_states.specs.Printed.{Printed};
+use hex::answer::reading_line;
+use hex::answer::reading_number;
+use libc::STDERR_FILENO;
+use libc::STDIN_FILENO;
+use libc::STDOUT_FILENO;
 use machine::record::Machine;
 use run::Asked;
 use run::ran;
@@ -33,11 +38,63 @@ fn page() -> [u8; 163840]
     [0; 163840]
 }
 
-// The first 4,096 bytes of standard input go to address 0 of a zeroed memory.
-fn main() {
-    let mut memory = io::large_buffer();
-    io::read_full(0, &mut memory[..4096]);
+// Prints the states of what memory holds.
+fn show(memory: &mut [u8]) {
     let mut out = page();
-    let n = print(&mut memory, &mut out);
-    io::write_all(1, &out[..n]);
+    let n = print(memory, &mut out);
+    io::write_all(STDOUT_FILENO, &out[..n]);
+}
+
+// The first 4,096 bytes of standard input go to address 0 of a zeroed memory.
+fn show_program() {
+    let mut memory = io::large_buffer();
+    io::read_full(STDIN_FILENO, &mut memory[..4096]);
+    show(&mut memory);
+}
+
+// Room for a text: one of the whole memory in records of 8 bytes has 237,581 characters.
+fn book() -> [u8; 262144]
+    ensures { λ r. ⌜ 262144 ≡ length r ⌝ }
+{
+    [0; 262144]
+}
+
+// Says why a text is refused, on standard error.
+fn refuse(number: u8, line: usize) {
+    io::write_all(STDERR_FILENO, b"print_states: refused ");
+    io::print_decimal(STDERR_FILENO, number as u64);
+    if line > 0 {
+        io::write_all(STDERR_FILENO, b" in line ");
+        io::print_decimal(STDERR_FILENO, line as u64);
+    }
+    io::write_all(STDERR_FILENO, b"\n");
+}
+
+// The records of the text on standard input go into a zeroed memory; where the text is refused, nothing is printed.
+fn show_hex() {
+    let mut text = book();
+    let n = io::read_full(STDIN_FILENO, &mut text);
+    if n == 262144 {
+        io::write_all(
+            STDERR_FILENO,
+            b"print_states: the text has 262,144 characters or more\n",
+        );
+        return;
+    }
+    let mut memory = io::large_buffer();
+    let answer = hex::read(&text[..n], &mut memory);
+    let number = reading_number(answer);
+    if number == 0 {
+        show(&mut memory);
+    } else {
+        refuse(number, reading_line(answer));
+    }
+}
+
+fn main() {
+    if os::arg_count() > 1 {
+        show_hex();
+    } else {
+        show_program();
+    }
 }

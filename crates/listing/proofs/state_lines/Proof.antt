@@ -5,7 +5,7 @@ use mathlib.Core.Path.{_≡_, refl, sym, _∙_}
 use native.Mathlib.Omega.{arith}
 use borrow.Author.Needs.{needs}
 use lib.ListN.{length}
-use Rattle.listing.specs.Text.{textOf, writtenOf}
+use Rattle.text.specs.Text.{textOf, writtenOf}
 use Rattle.listing.specs.Listing.{stateLinesOf}
 use Rattle.listing.proofs.Turn.{rows-none, rows-turn}
 use Rattle.listing.proofs.state_lines.Statement.{statement}

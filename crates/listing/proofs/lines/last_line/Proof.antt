@@ -2,7 +2,7 @@
 -- Assumes nothing.
 use borrow.Author.Needs.{needs}
 use Rattle.listing.specs.Lines.{lastLineOf}
-use Rattle.listing.proofs.Written.{both, one}
+use Rattle.text.proofs.Written.{both, one}
 use Rattle.listing.proofs.lines.last_line.Statement.{statement}
 use Rattle.listing.proofs.lines.last_line.Tie as tie
 

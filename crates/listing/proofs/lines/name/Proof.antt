@@ -3,7 +3,7 @@
 use borrow.Author.Needs.{needs}
 use borrow.Author.Tests.{eq-eqb, ne-eqb}
 use Rattle.listing.specs.Lines.{nameOf}
-use Rattle.listing.proofs.Written.{pieces}
+use Rattle.text.proofs.Written.{pieces}
 use Rattle.listing.proofs.lines.name.Statement.{statement}
 use Rattle.listing.proofs.lines.name.Tie as tie
 

@@ -2,8 +2,8 @@
 -- Assumes nothing.
 use borrow.Author.Needs.{needs}
 use Rattle.listing.specs.Lines.{stateLineOf}
-use Rattle.listing.proofs.Written.{both, more, one}
-use Rattle.listing.proofs.Room.{as-many}
+use Rattle.text.proofs.Written.{both, more, one}
+use Rattle.text.proofs.Room.{as-many}
 use Rattle.listing.proofs.lines.state_line.Statement.{statement}
 use Rattle.listing.proofs.lines.state_line.Tie as tie
 

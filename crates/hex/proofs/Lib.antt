@@ -1,0 +1,20 @@
+-- The modules of this folder.
+pub mod Pieces
+pub mod Scan
+pub mod Lined
+pub mod Formed
+pub mod Judged
+pub mod Answered
+pub mod Turns
+pub mod Made
+pub mod Chunks
+pub mod Sizes
+pub mod Writes
+pub mod Bytes
+pub mod Values
+pub mod Split
+pub mod Good
+pub mod Written
+pub mod Trip
+pub mod Unique
+pub mod Examples

@@ -1,0 +1,5 @@
+-- The modules of this folder.
+pub mod Written
+pub mod Decimal
+pub mod Room
+pub mod Examples

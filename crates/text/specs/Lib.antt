@@ -1,0 +1,3 @@
+-- The modules of this folder, in reading order.
+pub mod Text
+pub mod Numbers
