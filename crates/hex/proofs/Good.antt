@@ -13,8 +13,8 @@ use Rattle.hex.specs.declared.record.Line.the-variants.{Data, End}
 use Rattle.hex.specs.Lines.{bareOf, endingOf}
 use Rattle.hex.specs.Digits.{isHex, digitValue, allHex, twoDigits, byteAt, bytesIn, digitsOf, byteSum}
 use Rattle.hex.specs.Record.{recordCount, recordAddress, recordType, recordData, recordSound, lineFormed, lineIs, bodyOf, checksumOf, recordOf}
-use Rattle.hex.specs.Trip.{Bytes}
-use Rattle.hex.proofs.Bytes.{bytes-drop}
+use Rattle.text.specs.Bytes.{Bytes}
+use Rattle.text.proofs.Bytes.{bytes-drop}
 use Rattle.hex.proofs.Pieces.{digits-length, sum-both}
 use Rattle.hex.proofs.Values.{pair-back, digits-back, digits-hex}
 use Rattle.hex.proofs.Split.{bytesFor, record-bare, record-bytes}

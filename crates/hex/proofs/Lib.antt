@@ -10,7 +10,6 @@ pub mod Made
 pub mod Chunks
 pub mod Sizes
 pub mod Writes
-pub mod Bytes
 pub mod Values
 pub mod Split
 pub mod Good

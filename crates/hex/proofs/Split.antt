@@ -13,8 +13,8 @@ use Rattle.text.specs.Numbers.{byteOf}
 use Rattle.hex.specs.Lines.{carriage, textLines, endingOf, bareOf}
 use Rattle.hex.specs.Digits.{digitsOf}
 use Rattle.hex.specs.Record.{colon, bodyOf, checksumOf, recordOf}
-use Rattle.hex.specs.Trip.{Bytes}
-use Rattle.hex.proofs.Bytes.{bytes-cons, bytes-both}
+use Rattle.text.specs.Bytes.{Bytes}
+use Rattle.text.proofs.Bytes.{bytes-cons, bytes-both}
 use Rattle.hex.proofs.Pieces.{digits-both}
 use Rattle.hex.proofs.Values.{digit-no-feed}
 

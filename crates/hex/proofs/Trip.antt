@@ -18,8 +18,9 @@ use Rattle.hex.specs.Lines.{textLines}
 use Rattle.hex.specs.Read.{judgedFrom, landedFrom, readingOf}
 use Rattle.hex.specs.Write.{recordsFor, hexOf, rangeOf, lengthFor, writingOf}
 use Rattle.hex.specs.Outcome.{Reads, Writes}
-use Rattle.hex.specs.Trip.{Bytes, OnlyRecords, Restored}
-use Rattle.hex.proofs.Bytes.{bytes-take, bytes-drop}
+use Rattle.hex.specs.Trip.{OnlyRecords, Restored}
+use Rattle.text.specs.Bytes.{Bytes}
+use Rattle.text.proofs.Bytes.{bytes-take, bytes-drop}
 use Rattle.hex.proofs.Sizes.{range-length, hex-length}
 use Rattle.hex.proofs.Written.{Held, judged, landed, only}
 

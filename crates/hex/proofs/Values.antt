@@ -12,7 +12,7 @@ use Rattle.laws.proofs.Tests.{T→true}
 use Rattle.text.specs.Text.{feed}
 use Rattle.text.specs.Numbers.{digitOf, byteOf}
 use Rattle.hex.specs.Digits.{isHex, digitValue, allHex, twoDigits, bytesIn, digitsOf}
-use Rattle.hex.specs.Trip.{Bytes}
+use Rattle.text.specs.Bytes.{Bytes}
 
 -- a digit
 module _ (d : ℕ) (h : d < 16) where

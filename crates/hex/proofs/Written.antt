@@ -12,8 +12,9 @@ use Rattle.hex.specs.Lines.{textLines, bareOf}
 use Rattle.hex.specs.Record.{lineIs, recordOf}
 use Rattle.hex.specs.Read.{judgedFrom, landedOf, landedFrom}
 use Rattle.hex.specs.Write.{recordsOf}
-use Rattle.hex.specs.Trip.{Bytes, OnlyRecords}
-use Rattle.hex.proofs.Bytes.{bytes-take, bytes-drop}
+use Rattle.hex.specs.Trip.{OnlyRecords}
+use Rattle.text.specs.Bytes.{Bytes}
+use Rattle.text.proofs.Bytes.{bytes-take, bytes-drop}
 use Rattle.hex.proofs.Split.{record-first}
 use Rattle.hex.proofs.Good.{end-line, data-line, data-address, data-data}
 

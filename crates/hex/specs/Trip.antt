@@ -1,18 +1,14 @@
 -- There and back: what a written text is, and what reading it leaves. Source: request W1. Proved in `proofs/Trip.antt`.
-use Prim.Native.Nat.{ℕ, _+_, _<_}
+use Prim.Native.Nat.{ℕ, _+_}
 use mathlib.Core.Path.{_≡_}
 use mathlib.Core.List.{List, [], _∷_, _++_}
-use lib.ListN.{getD, take, drop}
+use lib.ListN.{take, drop}
 use Rattle.hex.specs.declared.answer.Reading.{Reading}
 use Rattle.hex.specs.declared.answer.Reading.the-variants.{Read}
 use Rattle.hex.specs.declared.record.Line.the-variants.{Data, End}
 use Rattle.hex.specs.Lines.{bareOf}
 use Rattle.hex.specs.Record.{lineIs}
 use Rattle.hex.specs.Write.{rangeOf}
-
--- what is in l are bytes, as in every slice of bytes
-abbrev pub Bytes : List ℕ → Type 0
-Bytes l = (j : ℕ) → getD l j 0 < 256
 
 -- data records, and an end record after them, the last line; so each line is formed, its checksum right and its type 00 or 01
 abbrev pub OnlyRecords : List (List ℕ) → Type 0

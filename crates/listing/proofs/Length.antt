@@ -7,7 +7,6 @@ use mathlib.Core.List.{List, _∷_}
 use mathlib.Core.Logic.{⊎-elim}
 use native.Mathlib.Omega.{arith}
 use lib.ListN.{length, getD, drop, length-append}
-use lib.Seq.{getD-drop}
 use lib.Dec.{eqb}
 use Rattle.laws.specs.Choice.{pick}
 use Rattle.laws.proofs.Order.{lt-or-le}
@@ -15,6 +14,8 @@ use Rattle.text.specs.Text.{Text, textOf, writtenOf}
 use Rattle.text.specs.Numbers.{byteOf, decimalOf}
 use Rattle.listing.specs.Lines.{tw, hold, halt, nameOf, stateLineOf, lastLineOf}
 use Rattle.listing.specs.Listing.{beforeHaltOf, stateLinesOf, listingOf, Lists}
+use Rattle.text.specs.Bytes.{Bytes}
+use Rattle.text.proofs.Bytes.{bytes-drop}
 use Rattle.text.proofs.Decimal.{decimal-small, decimal-large}
 use Rattle.listing.proofs.Halt.{rows-within}
 use Rattle.text.proofs.Written.{both}
@@ -55,10 +56,6 @@ name-length code h =
     either (eqb code 6) tw (pick (eqb code 7) hold (pick (eqb code 8) halt other)) (omega arith)
     (either (eqb code 7) hold (pick (eqb code 8) halt other) (omega arith) more)
 
--- what is in l are bytes
-abbrev pub Bytes : List ℕ → Type 0
-Bytes l = (j : ℕ) → getD l j 0 < 256
-
 line-length : (number : ℕ) (row : List ℕ) → number < 18446744073709551616 → Bytes row → length (stateLineOf number row) ≤ 38
 unfolding stateLineOf
 line-length number row h b =
@@ -68,9 +65,6 @@ line-length number row h b =
 last-length : (a pc states : ℕ) → states < 18446744073709551616 → length (lastLineOf a pc states) ≤ 41
 unfolding lastLineOf
 last-length a pc states h = simp (length-append, byte-length) (omega (arith, usize-decimal states h))
-
-bytes-drop : (n : ℕ) (l : List ℕ) → Bytes l → Bytes (drop n l)
-bytes-drop n l b j = rw getD-drop (b (n + j))
 
 rows-length : (l : List ℕ) (i n : ℕ) → i + n < 18446744073709551616 → Bytes l → length (stateLinesOf l i n) ≤ 38 * n
 unfolding stateLinesOf

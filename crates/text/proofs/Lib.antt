@@ -2,4 +2,5 @@
 pub mod Written
 pub mod Decimal
 pub mod Room
+pub mod Bytes
 pub mod Examples

@@ -5,7 +5,7 @@ use mathlib.Core.List.{List, [], _∷_, _++_}
 use native.Mathlib.Omega.{arith}
 use lib.ListN.{take, drop}
 use lib.Seq.{getD-drop}
-use Rattle.hex.specs.Trip.{Bytes}
+use Rattle.text.specs.Bytes.{Bytes}
 
 pub bytes-cons : (b : ℕ) (s : List ℕ) → b < 256 → Bytes s → Bytes (b ∷ s)
 bytes-cons b s p q zero = p
