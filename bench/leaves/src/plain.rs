@@ -48,7 +48,7 @@ pub extern "C" fn plain_arithmetic(y: u8, a: u8, b: u8, f: u8) -> u16 {
         1 => add(a, b, carry),
         2 => sub(a, b, 0),
         3 => sub(a, b, carry),
-        4 => result(a & b, 0, 0),
+        4 => result(a & b, ((a | b) & 8) << 1, 0),
         5 => result(a ^ b, 0, 0),
         6 => result(a | b, 0, 0),
         _ => sub(a, b, 0) & 0xFF00 | u16::from(a),

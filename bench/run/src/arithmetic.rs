@@ -23,7 +23,7 @@ pub fn arithmetic(y: u8, a: u8, f: u8, v: u8) -> (u8, u8) {
             let flags = szp(r) | !(a ^ v ^ r) & 16 | (rest >> 8) as u8 & 1;
             (if y & 7 == 7 { a } else { r }, flags)
         }
-        4 => (a & v, szp(a & v)),
+        4 => (a & v, szp(a & v) | ((a | v) & 8) << 1),
         5 => (a ^ v, szp(a ^ v)),
         _ => (a | v, szp(a | v)),
     }

@@ -22,8 +22,8 @@ infixl 20 _gives_with_
 _gives_with_ : Flagged → ℕ → ℕ → Example
 x gives v with f = record { gave = x; value = v; flags = f }
 
--- the cards: ADD, SUB A, DAA, DCR with CY off and on, INR, ANA; then CPI 00, SBI FF with CY, SUI 01 from 00, and DAA
--- of 00 with CY, 05 with AC, 9A, 99
+-- the cards: ADD, SUB A, DAA, DCR with CY off and on, INR, ANA; then CPI 00, SBI FF with CY, SUI 01 from 00, DAA of 00 with
+-- CY, 05 with AC, 9A, 99, and ANA with bit 3 in A alone, in the operand alone, in neither
 examples : List Example
 examples =
     (addOf 0x6C 0x2E false gives 0x9A with 0b10010110)
@@ -32,7 +32,7 @@ examples =
     ∷ (dcrOf 0x00 false gives 0xFF with 0b10000110)
     ∷ (dcrOf 0x00 true gives 0xFF with 0b10000111)
     ∷ (inrOf 0xFF false gives 0x00 with 0b01010110)
-    ∷ (anaOf 0xFC 0x0F gives 0x0C with 0b00000110)
+    ∷ (anaOf 0xFC 0x0F gives 0x0C with 0b00010110)
     ∷ (cmpOf 0x7B 0x00 gives 0x7B with 0b00010110)
     ∷ (subOf 0x7B 0xFF true gives 0x7B with 0b00000111)
     ∷ (subOf 0x00 0x01 false gives 0xFF with 0b10000111)
@@ -40,6 +40,9 @@ examples =
     ∷ (daaOf 0x05 true false gives 0x0B with 0b00000010)
     ∷ (daaOf 0x9A false false gives 0x00 with 0b01010111)
     ∷ (daaOf 0x99 false false gives 0x99 with 0b10000110)
+    ∷ (anaOf 0x08 0x07 gives 0x00 with 0b01010110)
+    ∷ (anaOf 0x87 0x88 gives 0x80 with 0b10010010)
+    ∷ (anaOf 0xF7 0x07 gives 0x07 with 0b00000010)
     ∷ []
 
 hold : List Example → Bool

@@ -4,11 +4,11 @@ ghost use Rattle.alu.specs.Logic.{andCarryOf, anaOf, xraOf, oraOf};
 use crate::flags::Flagged;
 use crate::flags::result;
 
-// AC after AND.
+// AC after AND: whether bit 3 of either byte is set.
 fn and_carry(a: u8, b: u8) -> bool
     ensures { λ r. ⌜ r ≡ andCarryOf a b ⌝ }
 {
-    false
+    (a / 8 % 2 == 1) | (b / 8 % 2 == 1)
 }
 
 // ANA.

@@ -1,6 +1,6 @@
 //! Every case of the published exerciser as one instruction through the public run.
 
-use exerciser::{groups, states, Case, Group, Left};
+use exerciser::{groups, states, Case, Left};
 use fezgandom::{Board, Flags, Lent, Machine, Next, Ran};
 
 /// Where an instruction lies: out of the way of all that the cases read and write.
@@ -8,13 +8,6 @@ const INSTRUCTION: u16 = 0x0200;
 
 /// Where the memory operand lies.
 const OPERAND: u16 = 0x0103;
-
-/// The group that holds ANI.
-const IMMEDIATE: &str = "aluop nn";
-const ANI: u8 = 0xE6;
-
-/// Half carry, in the flag byte.
-const AC: u8 = 0x10;
 
 /// A machine and its board, used for case after case.
 struct Bench {
@@ -81,24 +74,11 @@ impl Bench {
     }
 }
 
-/// What a case leaves where AND has the half carry of the chip: the OR of bit 3 of both operands.
-fn with_half_carry_of_and(case: &Case, left: Left) -> Left {
-    let [opcode, operand, ..] = case.instruction;
-    if opcode != ANI {
-        return left;
-    }
-    let ac = ((case.a | operand) & 8) << 1;
-    Left {
-        flags: left.flags & !AC | ac,
-        ..left
-    }
-}
-
 #[test]
 fn groups_give_the_published_checksums() {
     let mut bench = Bench::new();
     let (mut number, mut all) = (0, 0);
-    for group in groups().iter().filter(|g| g.name != IMMEDIATE) {
+    for group in groups() {
         let (sum, cases) = group.checksum(|case| bench.leaves(case));
         let (name, published) = (group.name, group.published);
         assert_eq!(
@@ -108,24 +88,5 @@ fn groups_give_the_published_checksums() {
         number += 1;
         all += cases;
     }
-    assert_eq!((number, all), (23, 148_727));
-}
-
-fn immediate() -> Group {
-    let mut all = groups().into_iter();
-    all.find(|g| g.name == IMMEDIATE).expect("the group")
-}
-
-/// AND clears AC here, by document 01: "AND, OR and XOR clear CY and AC". A chip leaves the OR of
-/// bit 3 of both operands there, and so will this machine with change request W2. Until then the
-/// group with ANI must differ from the published checksum, and must give it once that one flag of
-/// that one instruction is put in.
-#[test]
-fn immediate_group_differs_in_the_half_carry_of_and_alone() {
-    let (mut bench, group) = (Bench::new(), immediate());
-    let (sum, cases) = group.checksum(|case| bench.leaves(case));
-    assert_eq!(cases, 30_720);
-    assert_ne!(sum, group.published);
-    let (mended, _) = group.checksum(|case| with_half_carry_of_and(case, bench.leaves(case)));
-    assert_eq!(mended, group.published);
+    assert_eq!((number, all), (24, 179_447));
 }

@@ -1,4 +1,4 @@
-//! The arithmetic at every input, against a plain model of document 01, "Arithmetic points".
+//! The arithmetic at every input, against a plain model of document 01, "Arithmetic points", and change request W2.
 
 use leaves::{accumulator, arithmetic, dad, dcr, down, inr, up, Flagged};
 
@@ -51,13 +51,18 @@ fn sub(a: u8, b: u8, cy: bool) -> Flagged {
     )
 }
 
+/// "AC after AND on the 8080 is the OR of bit 3 of both operands."
+fn and(a: u8, b: u8) -> Flagged {
+    flagged(a & b, (a | b) & 0x08 != 0, false)
+}
+
 fn expected_arithmetic(y: u8, a: u8, b: u8, cy: bool) -> Flagged {
     match y {
         0 => add(a, b, false),
         1 => add(a, b, cy),
         2 => sub(a, b, false),
         3 => sub(a, b, cy),
-        4 => flagged(a & b, false, false),
+        4 => and(a, b),
         5 => flagged(a ^ b, false, false),
         6 => flagged(a | b, false, false),
         _ => Flagged {

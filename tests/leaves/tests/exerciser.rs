@@ -6,8 +6,9 @@ use leaves::{accumulator, arithmetic, dad, dcr, down, inr, up, Flagged};
 const TABLE: &str = include_str!("../../data/exerciser.tsv");
 
 /// The groups that must give the published checksum, with the number of their cases.
-const HELD: [(&str, usize); 15] = [
+const HELD: [(&str, usize); 16] = [
     ("dad <b,d,h,sp>", 36_352),
+    ("aluop nn", 30_720),
     ("<daa,cma,stc,cmc>", 65_536),
     ("<inr,dcr> a", 3_584),
     ("<inr,dcr> b", 3_584),
@@ -51,11 +52,8 @@ fn set_flagged(s: &mut State, at: usize, x: Flagged) {
     s[F] = x.flags;
 }
 
-/// What is done to the flag byte after an immediate AND of two bytes.
-type AfterAnd = fn(a: u8, b: u8, flags: u8) -> u8;
-
 /// Does the one instruction of a case.
-fn step(s: &mut State, after_and: AfterAnd) {
+fn step(s: &mut State) {
     let op = s[0];
     let (y, z) = (op >> 3 & 7, op & 7);
     let (a, f) = (s[A], s[F]);
@@ -75,12 +73,7 @@ fn step(s: &mut State, after_and: AfterAnd) {
             set_flagged(s, register, count(s[register], f));
         }
         (0, 7) => set_flagged(s, A, accumulator(y, a, f)),
-        (3, 6) => {
-            set_flagged(s, A, arithmetic(y, a, s[1], f));
-            if y == 4 {
-                s[F] = after_and(a, s[1], s[F]);
-            }
-        }
+        (3, 6) => set_flagged(s, A, arithmetic(y, a, s[1], f)),
         _ => panic!("{op:02X} is in no group that is done here"),
     }
 }
@@ -160,13 +153,13 @@ fn crc(mut register: u32, byte: u8) -> u32 {
 }
 
 /// The checksum over the states after all cases, and how many cases there were.
-fn checksum(g: &Group, after_and: AfterAnd) -> (u32, usize) {
+fn checksum(g: &Group) -> (u32, usize) {
     let all = cases(g);
     let mut sum = 0xFFFF_FFFF;
     for case in &all {
         let mut s = *case;
         s[F] = s[F] & 0xD7 | 0x02;
-        step(&mut s, after_and);
+        step(&mut s);
         let (memory, hl) = (&s[MEMORY..MEMORY + 2], &s[HL..HL + 2]);
         let after = [memory, hl, hl, &s[HL..]].concat();
         sum = after.into_iter().fold(sum, crc);
@@ -174,20 +167,11 @@ fn checksum(g: &Group, after_and: AfterAnd) -> (u32, usize) {
     (sum, all.len())
 }
 
-fn as_it_is(_: u8, _: u8, flags: u8) -> u8 {
-    flags
-}
-
-/// AC as the chip has it: the OR of bit 3 of both operands.
-fn as_on_the_chip(a: u8, b: u8, flags: u8) -> u8 {
-    flags & !0x10 | ((a | b) & 8) << 1
-}
-
 #[test]
 fn groups_give_the_published_checksum() {
     for (name, number) in HELD {
         let g = group(name);
-        let (sum, cases) = checksum(&g, as_it_is);
+        let (sum, cases) = checksum(&g);
         assert_eq!(cases, number, "cases of {name}");
         assert_eq!(
             sum, g.published,
@@ -195,16 +179,4 @@ fn groups_give_the_published_checksum() {
             g.published
         );
     }
-}
-
-/// AND clears AC here, by document 01: "AND, OR and XOR clear CY and AC". A chip leaves the OR of
-/// bit 3 of both operands there. So the group with immediate AND must differ from the published
-/// checksum, and must meet it once that one flag is put in.
-#[test]
-fn immediate_group_differs_in_the_half_carry_of_and_alone() {
-    let g = group("aluop nn");
-    let (sum, cases) = checksum(&g, as_it_is);
-    assert_eq!(cases, 30_720);
-    assert_ne!(sum, g.published);
-    assert_eq!(checksum(&g, as_on_the_chip).0, g.published);
 }

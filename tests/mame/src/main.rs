@@ -1,6 +1,6 @@
 //! `mame-compare FOLDER STRETCHES`: holds the trace of so many stretches that MAME left there against the proved machine:
-//! registers, flags, INTE, states and written bytes of each instruction. Fails at a difference that is not one of the two
-//! named below.
+//! registers, flags, INTE, states and written bytes of each instruction. Fails at any difference but one, the
+//! states of XCHG.
 
 mod mame;
 mod ours;
@@ -11,30 +11,20 @@ use std::collections::BTreeMap;
 use std::fs;
 use std::path::Path;
 
-const AC: u8 = 0x10;
+/// MAME counts 5 states for it, Intel's manual 4.
 const XCHG: u8 = 0xEB;
 
-/// MAME counts 5 states for XCHG, Intel's manual 4.
-const XCHG_STATES: &str = "XCHG takes one state more in MAME";
-
-/// Until AND's half carry follows Intel's assembly language manual.
-const AND_CARRY: &str = "AND sets AC in MAME";
-
-/// What was compared, and how often each difference was met.
+/// What was compared, and how many differences were met.
 #[derive(Default)]
 struct Tally {
     stretches: u64,
     writes: u64,
     opcodes: BTreeMap<u8, u64>,
-    known: BTreeMap<&'static str, u64>,
+    xchgs: u64,
     others: u64,
 }
 
 impl Tally {
-    fn know(&mut self, difference: &'static str) {
-        *self.known.entry(difference).or_default() += 1;
-    }
-
     /// Reports a difference that nobody expects; the first twenty are printed.
     fn report(
         &mut self,
@@ -74,11 +64,6 @@ impl Tally {
         *self.opcodes.entry(opcode).or_default() += 1;
         self.writes += done.writes.len() as u64;
 
-        let and = opcode & 0xF8 == 0xA0 || opcode == 0xE6;
-        if and && ours.registers().flags ^ after.before.flags == AC {
-            self.know(AND_CARRY);
-            ours.set_flags(after.before.flags);
-        }
         let mut mine = ours.registers();
         if done.halted {
             // MAME fetches HLT again and again.
@@ -86,9 +71,7 @@ impl Tally {
         }
         let states = (after.cycles - before.cycles) as u32;
         let one_more = opcode == XCHG && states == done.states + 1;
-        if one_more {
-            self.know(XCHG_STATES);
-        }
+        self.xchgs += u64::from(one_more);
         let checks = [
             ("registers", mine == after.before),
             ("states", one_more || states == done.states),
@@ -112,9 +95,10 @@ impl Tally {
             self.writes,
             self.opcodes.len()
         );
-        for (difference, times) in &self.known {
-            println!("known: {difference}: {times} times");
-        }
+        println!(
+            "known: XCHG takes one state more in MAME: {} times",
+            self.xchgs
+        );
         println!("other differences: {}", self.others);
     }
 }

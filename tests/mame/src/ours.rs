@@ -27,6 +27,7 @@ impl Ours {
     pub fn new(image: &[u8], start: &Registers) -> Ours {
         let mut machine = Machine::cold();
         machine.set_a(start.a);
+        machine.set_flag_byte(start.flags | 2);
         machine.set_bc(start.bc);
         machine.set_de(start.de);
         machine.set_hl(start.hl);
@@ -38,7 +39,6 @@ impl Ours {
             board: Board::with_program(image),
             trace: Trace::new(),
         };
-        ours.set_flags(start.flags);
         ours.board.inputs.fill(0xFF);
         ours.restore();
         ours
@@ -55,11 +55,6 @@ impl Ours {
             sp: self.machine.sp(),
             inte: self.machine.inte().into(),
         }
-    }
-
-    /// Changes the flags S, Z, AC, P and CY.
-    pub fn set_flags(&mut self, flags: u8) {
-        self.machine.set_flag_byte(flags | 2);
     }
 
     /// The opcode that comes next.

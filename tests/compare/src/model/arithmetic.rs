@@ -1,4 +1,4 @@
-//! Document 01, "Arithmetic points". A flag byte has the bits S, Z, 0, AC, 0, P, 1, CY.
+//! Document 01, "Arithmetic points", and change request W2. A flag byte has the bits S, Z, 0, AC, 0, P, 1, CY.
 
 pub const SIGN: u8 = 0x80;
 pub const ZERO: u8 = 0x40;
@@ -55,15 +55,15 @@ fn subtract(a: u8, b: u8, borrow: u8) -> Flagged {
 /// ADD, ADC, SUB, SBB, ANA, XRA, ORA and CMP, by number: the new A and flag byte.
 pub fn operate(number: u8, a: u8, b: u8, flags: u8) -> Flagged {
     let carry = flags & CARRY;
-    let logic = |byte: u8| (byte, flags_of(byte, false, false));
+    let logic = |byte: u8, half: bool| (byte, flags_of(byte, half, false));
     match number & 7 {
         0 => add(a, b, 0),
         1 => add(a, b, carry),
         2 => subtract(a, b, 0),
         3 => subtract(a, b, carry),
-        4 => logic(a & b),
-        5 => logic(a ^ b),
-        6 => logic(a | b),
+        4 => logic(a & b, (a | b) & 8 != 0),
+        5 => logic(a ^ b, false),
+        6 => logic(a | b, false),
         _ => (a, subtract(a, b, 0).1),
     }
 }
