@@ -1,4 +1,4 @@
-//! The bench cards of document 01 that are run and not proved, ANA as change request W2 mends it; the others are proved
+//! The bench cards of document 01 without a star, ANA as change request W2 mends it; the starred ones are proved
 //! (crates/demands, specs/Bench).
 
 use fezgandom::{Board, Machine, Ran, Refusal, Schedule, Trace};

@@ -9,7 +9,7 @@ use Rattle.alu.specs.declared.flags.Flagged.{Flagged}
 use Rattle.alu.specs.declared.words.Sum16.{Sum16}
 use Rattle.alu.specs.Flags.{flagByteOf, resultOf, withCy, parityOf}
 use Rattle.alu.specs.Sums.{sumOf, halfCarryOf, addOf, subOf, cmpOf, keepCy, inrOf, dcrOf, daaOf}
-use Rattle.alu.specs.Logic.{andCarryOf, anaOf}
+use Rattle.alu.specs.Logic.{andCarryOf, anaOf, xraOf, oraOf}
 use Rattle.alu.specs.Words.{dadOf, upOf}
 
 -- what an operation gave, the byte that it should be, and the flag byte: S Z 0 AC 0 P 1 CY
@@ -23,7 +23,7 @@ _gives_with_ : Flagged → ℕ → ℕ → Example
 x gives v with f = record { gave = x; value = v; flags = f }
 
 -- the cards: ADD, SUB A, DAA, DCR with CY off and on, INR, ANA; then CPI 00, SBI FF with CY, SUI 01 from 00, DAA of 00 with
--- CY, 05 with AC, 9A, 99, and ANA with bit 3 in A alone, in the operand alone, in neither
+-- CY, 05 with AC, 9A, 99; ANA with bit 3 in A alone, in the operand alone, in neither; XRA and ORA with bit 3 in A
 examples : List Example
 examples =
     (addOf 0x6C 0x2E false gives 0x9A with 0b10010110)
@@ -43,6 +43,8 @@ examples =
     ∷ (anaOf 0x08 0x07 gives 0x00 with 0b01010110)
     ∷ (anaOf 0x87 0x88 gives 0x80 with 0b10010010)
     ∷ (anaOf 0xF7 0x07 gives 0x07 with 0b00000010)
+    ∷ (xraOf 0x88 0x07 gives 0x8F with 0b10000010)
+    ∷ (oraOf 0x08 0x07 gives 0x0F with 0b00000110)
     ∷ []
 
 hold : List Example → Bool
@@ -51,7 +53,7 @@ hold (x ∷ xs) = eqb (x .gave .value) (x .value) && eqb (flagByteOf (x .gave .f
 
 examples-hold : T (hold examples)
 unfolding examples hold _gives_with_ flagByteOf resultOf withCy parityOf
-    sumOf halfCarryOf addOf subOf cmpOf keepCy inrOf dcrOf daaOf andCarryOf anaOf
+    sumOf halfCarryOf addOf subOf cmpOf keepCy inrOf dcrOf daaOf andCarryOf anaOf xraOf oraOf
 examples-hold = tt
 
 -- DAD H with H,L 8000, and INX at FFFF
