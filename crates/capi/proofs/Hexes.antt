@@ -3,10 +3,10 @@
 use Prim.Native.Nat.{ℕ}
 use mathlib.Core.Path.{◌≡◌}
 use mathlib.Core.List.{List}
-use Rattle.hex.specs.declared.answer.Reading.{Reading}
-use Rattle.hex.specs.declared.answer.Writing.{Writing}
-use Rattle.hex.specs.Answer.{reading_number, reading_line, writing_number, writing_length}
-use Rattle.hex.specs.Outcome.{Reads, Writes}
+use Rattle.intel_hex.specs.declared.answer.Reading.{Reading}
+use Rattle.intel_hex.specs.declared.answer.Writing.{Writing}
+use Rattle.intel_hex.specs.Answer.{reading_number, reading_line, writing_number, writing_length}
+use Rattle.intel_hex.specs.Outcome.{Reads, Writes}
 use Rattle.capi.specs.Numbers.{beside_of}
 use Rattle.capi.specs.Calls.{HexReadCall, HexWriteCall}
 

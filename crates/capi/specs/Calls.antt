@@ -17,10 +17,10 @@ use Rattle.saved.specs.Fields.{machine_in, ports_in, memory_in}
 use Rattle.saved.specs.Answer.{saving_number}
 use Rattle.saved.specs.Check.{pass, save_verdict, load_verdict}
 use Rattle.saved.specs.Outcome.{filled_by, saving_by}
-use Rattle.hex.specs.Read.{reading_of}
-use Rattle.hex.specs.Write.{hex_of, range_of, writing_of}
-use Rattle.hex.specs.Answer.{reading_number, reading_line, writing_number, writing_length}
-use Rattle.hex.specs.Outcome.{memory_by, output_by}
+use Rattle.intel_hex.specs.Read.{reading_of}
+use Rattle.intel_hex.specs.Write.{hex_of, range_of, writing_of}
+use Rattle.intel_hex.specs.Answer.{reading_number, reading_line, writing_number, writing_length}
+use Rattle.intel_hex.specs.Outcome.{memory_by, output_by}
 use Rattle.capi.specs.Flat.{flat_of, record_with}
 use Rattle.capi.specs.Handed.{handed_of}
 use Rattle.capi.specs.Numbers.{request_number, step_number, run_number, beside_of}

@@ -1,5 +1,7 @@
 // The simulator as C functions on numbers and bytes. A machine is a record of 64 bytes (docs/RECORD.md); what the functions
 // return is document 01's number.
+#![tactic(auto)]
+
 ghost use Rattle.std.specs.Prelude.{◌≡◌};
 ghost use Rattle.machine.specs.Well.{well_of};
 ghost use Rattle.capi.specs.Handed.{handed_of};
@@ -8,7 +10,7 @@ ghost use Rattle.capi.specs.Calls.{request_call, ColdCall, StepCall, RunCall, Sa
 use crate::flat::{put_answer, record_with};
 use crate::handed::handed;
 use crate::number::{DONE, ILL_FORMED, beside, request_number, run_number, step_number};
-use hex::answer::{reading_line, reading_number, writing_length, writing_number};
+use intel_hex::answer::{reading_line, reading_number, writing_length, writing_number};
 use machine::record::Machine;
 use run::Asked;
 use saved::answer::{Loading, loading_number, saving_number};
@@ -121,7 +123,7 @@ pub extern "C" fn fez_load(z: &mut [u8], s: &[u8], memory: &mut [u8], outputs: &
 pub extern "C" fn fez_hex_read(text: &[u8], memory: &mut [u8]) -> u64
     ensures { HexReadCall text.now memory.old result memory.new }
 {
-    let answer = hex::read(text, memory);
+    let answer = intel_hex::read(text, memory);
     beside(reading_number(answer), reading_line(answer))
 }
 
@@ -131,6 +133,6 @@ pub extern "C" fn fez_hex_read(text: &[u8], memory: &mut [u8]) -> u64
 pub extern "C" fn fez_hex_write(memory: &[u8], start: usize, length: usize, out: &mut [u8]) -> u64
     ensures { HexWriteCall memory.now start length out.old result out.new }
 {
-    let answer = hex::write(memory, start, length, out);
+    let answer = intel_hex::write(memory, start, length, out);
     beside(writing_number(answer), writing_length(answer))
 }

@@ -1,5 +1,7 @@
 // The arithmetic and the opcode table as C functions on numbers, so that tests and benchmarks call what was proved.
 // A byte with its flags comes back as the byte and 256 times the flag byte.
+#![tactic(auto)]
+
 ghost use Rattle.std.specs.Prelude.{◌≡◌};
 ghost use Rattle.alu.specs.Words.{up_of, down_of};
 ghost use Rattle.opcodes.specs.Condition.{met_of};

@@ -1,4 +1,6 @@
 // A trace as text: a line for each state before the machine halts, and a last line.
+#![tactic(auto)]
+
 ghost use Rattle.std.specs.Prelude.{◌≡◌, ◌*◌, ◌≤◌, min, length};
 ghost use Rattle.text.specs.Text.{text_of, written_of};
 ghost use Rattle.listing.specs.Listing.{before_halt_of, state_lines_of, Lists};

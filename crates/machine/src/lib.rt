@@ -1,5 +1,7 @@
 // The machine: a struct by value with a position inside, its one-state step, what a state asks and shows, and which records
 // are well formed.
+#![tactic(auto)]
+
 pub mod cycle;
 mod ending;
 pub mod look;

@@ -1,9 +1,11 @@
 // Prints the states of the program that standard input holds: a line each, up to a halt, a stop or 4,096 states, and a last
 // line with A, PC and the number of states. With an argument, standard input is an Intel HEX text.
+#![tactic(auto)]
+
 ghost use Rattle.std.specs.Prelude.{◌≡◌, length};
 ghost use Rattle.print_states.specs.Printed.{Printed};
 
-use hex::answer::{reading_line, reading_number};
+use intel_hex::answer::{reading_line, reading_number};
 use libc::{STDERR_FILENO, STDIN_FILENO, STDOUT_FILENO};
 use machine::record::Machine;
 use run::{Asked, ran};
@@ -78,7 +80,7 @@ fn show_hex() {
         return;
     }
     let mut memory = io::large_buffer();
-    let answer = hex::read(&text[..n], &mut memory);
+    let answer = intel_hex::read(&text[..n], &mut memory);
     let number = reading_number(answer);
     if number == 0 {
         show(&mut memory);

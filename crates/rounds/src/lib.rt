@@ -1,4 +1,6 @@
 // Many runs in one C function, so that tests and benchmarks call what was proved.
+#![tactic(auto)]
+
 ghost use Rattle.std.specs.Prelude.{◌≡◌};
 ghost use Rattle.rounds.specs.Rounds.{Rounded};
 

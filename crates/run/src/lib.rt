@@ -1,4 +1,6 @@
 // A run: a number of states over lent memory, ports and trace, driven by a schedule.
+#![tactic(auto)]
+
 ghost use Rattle.std.specs.Prelude.{◌≡◌};
 ghost use Rattle.run.specs.Answer.{ran_of};
 ghost use Rattle.run.specs.Outcome.{answered_of, Outcome};

@@ -1,4 +1,6 @@
 // Saving a machine that is between instructions into 65,816 bytes, and loading it again.
+#![tactic(auto)]
+
 ghost use Rattle.std.specs.Prelude.{◌≡◌};
 ghost use Rattle.saved.specs.Outcome.{Saves, Loads};
 

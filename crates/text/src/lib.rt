@@ -1,4 +1,6 @@
 // Characters, one after the other, into lent bytes.
+#![tactic(auto)]
+
 ghost use Rattle.std.specs.Prelude.{◌≡◌};
 ghost use Rattle.text.specs.Text.{text_of, put_of, written_of};
 
