@@ -9,4 +9,4 @@ pub cmc_spec : {M : Type 1} → statement M
 unfolding cmc_of
 cmc_spec =
     tie.close
-    (tie.spec (search rules) (λ c. simp (← c.with-cy.ensures)))
+    (tie.spec (search rules) (λ c. simp (← c.with_cy.ensures)))

@@ -10,4 +10,4 @@ unfolding ral_of
 ral_spec =
     tie.close
     (tie.spec (search rules) (search rules) (search rules) (search rules)
-    (λ c. simp (← c.with-cy.ensures, ← c.before.bit.ensures.0)))
+    (λ c. simp (← c.with_cy.ensures, ← c.before.bit.ensures.0)))

@@ -9,4 +9,4 @@ pub rlc_spec : {M : Type 1} → statement M
 unfolding rlc_of
 rlc_spec =
     tie.close
-    (tie.spec (search rules) (search rules) (search rules) (λ c. simp (← c.with-cy.ensures)))
+    (tie.spec (search rules) (search rules) (search rules) (λ c. simp (← c.with_cy.ensures)))

@@ -9,4 +9,4 @@ pub rrc_spec : {M : Type 1} → statement M
 unfolding rrc_of
 rrc_spec =
     tie.close
-    (tie.spec (search rules) (search rules) (search rules) (λ c. simp (← c.with-cy.ensures)))
+    (tie.spec (search rules) (search rules) (search rules) (λ c. simp (← c.with_cy.ensures)))

@@ -9,4 +9,4 @@ pub stc_spec : {M : Type 1} → statement M
 unfolding stc_of
 stc_spec =
     tie.close
-    (tie.spec (search rules) (λ c. simp (← c.with-cy.ensures)))
+    (tie.spec (search rules) (λ c. simp (← c.with_cy.ensures)))

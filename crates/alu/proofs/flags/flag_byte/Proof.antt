@@ -13,9 +13,9 @@ flag_byte_spec =
     (search rules) (search rules) (search rules) (search rules) (search rules) (search rules) (search rules)
     (λ c.
     simp (
-      ← c.bit5.ensures.0,
-      ← c.before.bit4.ensures.0,
-      ← c.before.before.bit3.ensures.0,
-      ← c.before.before.before.bit2.ensures.0,
+      ← c.bit-5.ensures.0,
+      ← c.before.bit-4.ensures.0,
+      ← c.before.before.bit-3.ensures.0,
+      ← c.before.before.before.bit-2.ensures.0,
       ← c.before.before.before.before.bit.ensures.0,
     )))

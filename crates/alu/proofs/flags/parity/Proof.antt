@@ -2,7 +2,6 @@
 -- Assumes nothing.
 use Rattle.std.proofs.Common.{◌≡◌, ℕ, ◌/◌, ◌%◌, ◌^◌, ◌<◌, Bool, T, eqb, List, [], ◌∷◌, get_or, arith, rules}
 use Rattle.laws.proofs.Every.{every, below, same, same→eq}
-use Rattle.laws.proofs.Last.{last}
 use Rattle.alu.specs.Flags.{parity_of}
 use Rattle.alu.proofs.flags.parity.Statement.{statement}
 use Rattle.alu.proofs.flags.parity.Tie as tie
@@ -31,7 +30,7 @@ parity_spec =
     tie.close
     (tie.spec (search rules) (search rules) (search rules) (search rules) (search rules) (search rules) (search rules)
     (search rules)
-    (λ c. right-at _ 0 c.before.ranges.v.fits c.match.keys1)
-    (λ c. right-at _ 1 c.before.ranges.v.fits c.match.keys2)
-    (λ c. right-at _ 2 c.before.ranges.v.fits c.match.keys3)
-    (λ c. right-at _ 3 c.before.ranges.v.fits (last 3 c.match.rest (omega arith))))
+    (λ c. right-at _ 0 c.before.ranges.v.fits c.in-0.is)
+    (λ c. right-at _ 1 c.before.ranges.v.fits c.in-1.is)
+    (λ c. right-at _ 2 c.before.ranges.v.fits c.in-2.is)
+    (λ c. right-at _ 3 c.before.ranges.v.fits (omega arith)))

@@ -9,4 +9,4 @@ pub ana_spec : {M : Type 1} → statement M
 unfolding ana_of
 ana_spec =
     tie.close
-    (tie.spec (search rules) (search rules) (λ c. simp (← c.result.ensures, ← c.before.and-carry.ensures)))
+    (tie.spec (search rules) (search rules) (λ c. simp (← c.result.ensures, ← c.before.and_carry.ensures)))

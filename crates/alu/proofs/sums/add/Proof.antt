@@ -10,4 +10,4 @@ unfolding add_of
 add_spec =
     tie.close
     (tie.spec (search rules) (search rules) (search rules) (search rules)
-    (λ c. simp (← c.result.ensures, ← c.before.half-carry.ensures, ← c.before.before.sum.ensures)))
+    (λ c. simp (← c.result.ensures, ← c.before.half_carry.ensures, ← c.before.before.sum-total.ensures)))

@@ -9,4 +9,4 @@ pub cmp_spec : {M : Type 1} → statement M
 unfolding cmp_of
 cmp_spec =
     tie.close
-    (tie.spec (search rules) (λ c. simp (← c.before.sub.ensures)))
+    (tie.spec (search rules) (λ c. simp (← c.before.sub-difference.ensures)))

@@ -14,9 +14,9 @@ daa_spec =
     (λ c.
     simp (
       ← c.result.ensures,
-      ← c.before.half-carry.ensures,
-      ← c.before.before.wrapping-add-u82.ensures,
-      ← c.before.before.before.bit2.ensures.0,
-      ← c.before.before.before.before.wrapping-add-u8.ensures,
-      ← c.before.before.before.before.before.bit.ensures.0,
+      ← c.before.half_carry.ensures,
+      ← c.before.before.wrapping_add_u8-value.ensures,
+      ← c.before.before.before.bit.ensures.0,
+      ← c.before.before.before.before.wrapping_add_u8-new.ensures,
+      ← c.before.before.before.before.before.bit-six.ensures.0,
     )))

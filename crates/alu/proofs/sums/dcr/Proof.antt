@@ -9,4 +9,4 @@ pub dcr_spec : {M : Type 1} → statement M
 unfolding dcr_of
 dcr_spec =
     tie.close
-    (tie.spec (search rules) (search rules) (λ c. simp (← c.keep-cy.ensures, ← c.before.sub.ensures)))
+    (tie.spec (search rules) (search rules) (λ c. simp (← c.keep_cy.ensures, ← c.before.sub.ensures)))

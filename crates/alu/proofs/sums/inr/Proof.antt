@@ -9,4 +9,4 @@ pub inr_spec : {M : Type 1} → statement M
 unfolding inr_of
 inr_spec =
     tie.close
-    (tie.spec (search rules) (search rules) (λ c. simp (← c.keep-cy.ensures, ← c.before.add.ensures)))
+    (tie.spec (search rules) (search rules) (λ c. simp (← c.keep_cy.ensures, ← c.before.add.ensures)))

@@ -9,4 +9,4 @@ pub keep_cy_spec : {M : Type 1} → statement M
 unfolding keep_cy
 keep_cy_spec =
     tie.close
-    (tie.spec (search rules) (λ c. simp (← c.with-cy.ensures)))
+    (tie.spec (search rules) (λ c. simp (← c.with_cy.ensures)))

@@ -14,7 +14,7 @@ sub_spec =
     (λ c.
     simp (
       ← c.result.ensures,
-      ← c.before.half-carry.ensures,
+      ← c.before.half_carry.ensures,
       ← c.before.before.bit.ensures.0,
-      ← c.before.before.before.sum.ensures,
+      ← c.before.before.before.sum-total.ensures,
     )))
