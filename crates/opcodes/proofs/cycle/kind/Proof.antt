@@ -14,17 +14,17 @@ unfolding kind_of
 kind_spec =
     tie.close
     (tie.spec (search rules)
-    (λ c. simp (← c.fetch-kind.ensures, eq-eqb _ _ c.before.if1.true))
+    (λ c. simp (← c.fetch_kind.ensures, eq-eqb _ _ c.before.if-digit-eq-FETCH.true))
     (search rules) (search rules) (search rules) (search rules) (search rules) (search rules)
     (λ c. simp (
-      ne_eqb _ _ c.before.before.if1.false,
+      ne_eqb _ _ c.before.before.if-digit-eq-FETCH.false,
       ← c.before.writes.ensures,
-      c.if2.true,
+      c.if-writes.true,
       kind_is (c.before.before.before.args.code / 16) (omega arith),
     ))
     (λ c. simp (
-      ne_eqb _ _ c.before.before.if1.false,
+      ne_eqb _ _ c.before.before.if-digit-eq-FETCH.false,
       ← c.before.writes.ensures,
-      c.if2.false,
+      c.if-writes.false,
       kind_is (c.before.before.before.args.code / 16) (omega arith),
     )))

@@ -10,6 +10,6 @@ pub states_spec : {M : Type 1} → statement M
 unfolding states_of
 states_spec =
     tie.close
-    (tie.spec (λ c. simp (eq-eqb _ _ c.if1.true))
-    (λ c. simp (eq-eqb _ _ c.if2.true, ne_eqb _ _ c.before.if1.false))
-    (λ c. simp (ne_eqb _ _ c.if2.false, ne_eqb _ _ c.before.if1.false)))
+    (tie.spec (λ c. simp (eq-eqb _ _ c.if-code-eq-FETCH.true))
+    (λ c. simp (eq-eqb _ _ c.if-code-eq-SWAP_L.true, ne_eqb _ _ c.before.if-code-eq-FETCH.false))
+    (λ c. simp (ne_eqb _ _ c.if-code-eq-SWAP_L.false, ne_eqb _ _ c.before.if-code-eq-FETCH.false)))

@@ -10,4 +10,4 @@ use Rattle.opcodes.proofs.cycle.status.Tie as tie
 pub status_spec : {M : Type 1} → statement M
 unfolding status_of
 status_spec =
-    tie.close (tie.spec (search rules) (λ c. refl) (λ c. sym (get_or-eq_default statuses 0 c.if1.false)))
+    tie.close (tie.spec (search rules) (λ c. refl) (λ c. sym (get_or-eq_default statuses 0 c.if-kind-lt12.false)))

@@ -11,7 +11,7 @@ unfolding code_in
 code_spec =
     tie.close
     (tie.spec
-    (λ c. simp (lt-leb _ _ c.if1.true))
-    (λ c. simp (le-leb _ _ c.before.if1.false, lt-leb _ _ c.if2.true))
+    (λ c. simp (lt-leb _ _ c.if-c-lt1.true))
+    (λ c. simp (le-leb _ _ c.before.if-c-lt1.false, lt-leb _ _ c.if-c-gt5.true))
     (search rules) (search rules) (search rules) (search rules) (search rules)
-    (λ c. simp (le-leb _ _ c.before.if1.false, le-leb _ _ c.if2.false)))
+    (λ c. simp (le-leb _ _ c.before.if-c-lt1.false, le-leb _ _ c.if-c-gt5.false)))

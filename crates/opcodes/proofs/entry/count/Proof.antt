@@ -11,5 +11,5 @@ unfolding count_in
 count_spec =
     tie.close
     (tie.spec (search rules) (search rules)
-    (λ c. (rw c.if1.true, omega arith))
-    (λ c. (rw c.if1.false, omega arith)))
+    (λ c. (rw c.if-met.true, omega arith))
+    (λ c. (rw c.if-met.false, omega arith)))
