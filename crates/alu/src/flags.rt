@@ -2,7 +2,7 @@
 ghost use Rattle.std.specs.Prelude.{◌≡◌, ◌<◌};
 ghost use Rattle.alu.specs.Flags.{bit_of, parity_of, flag_byte_of, flags_of, result_of, with_cy};
 
-#[derive(Drop)]
+#[derive(Clone, Copy)]
 pub struct Flags {
     pub s: bool,
     pub z: bool,
@@ -12,7 +12,7 @@ pub struct Flags {
 }
 
 // A byte and the flags after it was made.
-#[derive(Drop)]
+#[derive(Clone, Copy)]
 pub struct Flagged {
     pub value: u8,
     pub flags: Flags,

@@ -3,7 +3,7 @@ ghost use Rattle.std.specs.Prelude.{◌≡◌};
 ghost use Rattle.alu.specs.Words.{dad_of, up_of, down_of};
 
 // A 16-bit sum and its carry.
-#[derive(Drop)]
+#[derive(Clone, Copy)]
 pub struct Sum16 {
     pub value: u16,
     pub cy: bool,

@@ -6,7 +6,7 @@ use opcodes::cycle::Acknowledge;
 
 // The opcode, whether it is an acknowledge and with which restart number, and the bytes read by cycles 2 to 5, in order.
 // What is not read yet is 0.
-#[derive(Drop)]
+#[derive(Clone, Copy)]
 pub struct Kept {
     pub opcode: u8,
     pub ack: Acknowledge,

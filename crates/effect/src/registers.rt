@@ -6,7 +6,7 @@ ghost use Rattle.effect.specs.Pairs.{pair_of, with_pair, pop_pair, pair_high_of,
 use alu::flags::{Flagged, Flags};
 
 // f is the flag byte; inte says whether interrupts are enabled.
-#[derive(Drop)]
+#[derive(Clone, Copy)]
 pub struct Registers {
     pub a: u8,
     pub f: u8,

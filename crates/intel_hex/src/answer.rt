@@ -3,7 +3,7 @@ ghost use Rattle.std.specs.Prelude.{◌≡◌};
 ghost use Rattle.intel_hex.specs.Answer.{refusal_number, reading_number, reading_line, writing_number, writing_length};
 
 // Why a text is not read or a range not written.
-#[derive(Drop)]
+#[derive(Clone, Copy)]
 pub enum Refusal {
     MemorySize,
     Malformed,
@@ -14,14 +14,14 @@ pub enum Refusal {
 }
 
 // Read: the records are in memory. Refused: no byte is changed; the line at fault counts from 1, and is 0 where no line is.
-#[derive(Drop)]
+#[derive(Clone, Copy)]
 pub enum Reading {
     Read,
     Refused { reason: Refusal, line: usize },
 }
 
 // Written: the output begins with a text of this length. Refused: no byte is changed.
-#[derive(Drop)]
+#[derive(Clone, Copy)]
 pub enum Writing {
     Written { length: usize },
     Refused { reason: Refusal },

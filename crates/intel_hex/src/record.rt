@@ -8,7 +8,7 @@ use crate::answer::Refusal;
 use crate::digits::{all_hex, byte_at, put, sum};
 
 // What a line is.
-#[derive(Drop)]
+#[derive(Clone, Copy)]
 pub enum Line {
     Data,
     End,

@@ -8,7 +8,7 @@ use opcodes::condition::met;
 use opcodes::entry::{code, count, defined, entry};
 
 // A cycle: its code, its states, and the number of the cycle after it, 0 after the last.
-#[derive(Drop)]
+#[derive(Clone, Copy)]
 pub struct Cycle {
     pub code: u8,
     pub states: u8,

@@ -9,14 +9,14 @@ use effect::kept::Kept;
 use effect::registers::Registers;
 
 // A cycle's number, and the trace's code of a state in it.
-#[derive(Drop)]
+#[derive(Clone, Copy)]
 pub struct Place {
     pub cycle: u8,
     pub state: u8,
 }
 
 // What a state shows, but for the data.
-#[derive(Drop)]
+#[derive(Clone, Copy)]
 pub struct Look {
     pub cycle: u8,
     pub state: u8,

@@ -8,7 +8,7 @@ use effect::registers::Registers;
 use opcodes::cycle::Acknowledge;
 
 // What comes next; cycles and states count from 1. T1 of the first cycle is Fetch, an acknowledge's too.
-#[derive(Drop)]
+#[derive(Clone, Copy)]
 pub enum Position {
     Fetch,
     Later { cycle: u8, state: u8 },
@@ -19,7 +19,7 @@ pub enum Position {
 }
 
 // The levels: READY and HOLD 0 down or 1 up, INT 0 to 7 up with that restart number or 8 down.
-#[derive(Drop)]
+#[derive(Clone, Copy)]
 pub struct Lines {
     pub ready: u8,
     pub hold: u8,
@@ -27,7 +27,7 @@ pub struct Lines {
 }
 
 // clock is the number of states done.
-#[derive(Drop)]
+#[derive(Clone, Copy)]
 pub struct Machine {
     pub regs: Registers,
     pub kept: Kept,

@@ -10,7 +10,7 @@ use effect::kept::Kept;
 use effect::registers::Registers;
 
 // What a state asks of the bus. Restart is the byte that the interrupting device puts there.
-#[derive(Drop)]
+#[derive(Clone, Copy)]
 pub enum Request {
     Nothing,
     Read { address: u16 },

@@ -8,7 +8,7 @@ use crate::record::{Lines, Machine};
 use alu::flags::bit;
 
 // The eight bytes of the trace, in their order.
-#[derive(Drop)]
+#[derive(Clone, Copy)]
 pub struct Row {
     pub state: u8,
     pub kind: u8,

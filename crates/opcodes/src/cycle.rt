@@ -4,7 +4,7 @@ ghost use Rattle.opcodes.specs.Kinds.{fetch_kind, writes_of, kind_of, status_of,
 ghost use Rattle.opcodes.specs.Kinds.{waits_of, reads_of, is_none, raises_of};
 
 // How an instruction was come to: fetched, or as the answer to an interrupt that was taken from running or from halt.
-#[derive(Drop)]
+#[derive(Clone, Copy)]
 pub enum Acknowledge {
     None,
     Running,

@@ -5,7 +5,7 @@ ghost use Rattle.run.specs.Answer.{refusal_number, number_of};
 use machine::record::Machine;
 
 // Why a run is refused, in the order of the tests.
-#[derive(Drop)]
+#[derive(Clone, Copy)]
 pub enum Refusal {
     MemorySize,
     PortSize,
@@ -19,14 +19,14 @@ pub enum Refusal {
 }
 
 // What the tests of a run's arguments say.
-#[derive(Drop)]
+#[derive(Clone, Copy)]
 pub enum Verdict {
     Good,
     Refused { reason: Refusal },
 }
 
 // The machine after a run, and the states that were done.
-#[derive(Drop)]
+#[derive(Clone, Copy)]
 pub struct Ran {
     pub machine: Machine,
     pub states: usize,
@@ -34,7 +34,7 @@ pub struct Ran {
 
 // Done: all states that were asked. Stopped: an undefined opcode was fetched, in this run or before. Refused: nothing was
 // done, and the machine is as it came.
-#[derive(Drop)]
+#[derive(Clone, Copy)]
 pub enum Answer {
     Done { ran: Ran },
     Stopped { ran: Ran },

@@ -17,7 +17,7 @@ mod going;
 mod state;
 
 // What is asked of a run: this machine, and so many states.
-#[derive(Drop)]
+#[derive(Clone, Copy)]
 pub struct Asked {
     pub machine: Machine,
     pub states: usize,

@@ -5,7 +5,7 @@ ghost use Rattle.saved.specs.Answer.{refusal_number, saving_number, loading_numb
 use machine::record::Machine;
 
 // Why a machine is not saved or not loaded.
-#[derive(Drop)]
+#[derive(Clone, Copy)]
 pub enum Refusal {
     MemorySize,
     PortSize,
@@ -17,21 +17,21 @@ pub enum Refusal {
 }
 
 // What the tests of the arguments say.
-#[derive(Drop)]
+#[derive(Clone, Copy)]
 pub enum Verdict {
     Good,
     Refused { reason: Refusal },
 }
 
 // Saved: the output holds the machine. Refused: no byte is changed.
-#[derive(Drop)]
+#[derive(Clone, Copy)]
 pub enum Saving {
     Saved,
     Refused { reason: Refusal },
 }
 
 // Loaded: this machine. Refused: no byte is changed, and the machine is the one that was handed in.
-#[derive(Drop)]
+#[derive(Clone, Copy)]
 pub enum Loading {
     Loaded { machine: Machine },
     Refused { reason: Refusal, machine: Machine },

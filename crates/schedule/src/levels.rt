@@ -6,7 +6,7 @@ use crate::event::state_number;
 use machine::record::Lines;
 
 // The levels, and the number of events that lie behind.
-#[derive(Drop)]
+#[derive(Clone, Copy)]
 pub struct Due {
     pub lines: Lines,
     pub at: usize,

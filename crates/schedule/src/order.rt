@@ -5,7 +5,7 @@ ghost use Rattle.schedule.specs.Events.{listed_at, follows_of, all, ordered_of, 
 use crate::event::{listed, state_number};
 
 // What the tests say: good, or which of them fails first.
-#[derive(Drop)]
+#[derive(Clone, Copy)]
 pub enum Checked {
     Good,
     Length,

@@ -13,9 +13,9 @@ given_spec =
     (search rules) (search rules)
     (λ c.
     simp (
-      ← c.pair-low.ensures,
-      ← c.before.before.pair-high.ensures,
-      ← c.before.before.before.before.before.before.wrapping-add-u82.ensures,
-      ← c.before.before.before.before.before.before.before.wrapping-add-u8.ensures,
+      ← c.pair_low.ensures,
+      ← c.before.before.pair_high.ensures,
+      ← c.before.before.before.before.before.before.wrapping_add_u8-2.ensures,
+      ← c.before.before.before.before.before.before.before.wrapping_add_u8.ensures,
       ← c.before.before.before.before.before.before.before.before.reg.ensures,
     )))

@@ -10,5 +10,5 @@ unfolding finish called
 call_if_spec =
     tie.close
     (tie.spec (search rules) (search rules)
-    (λ c. simp (← c.call-to.ensures, ← c.before.wz.ensures, c.before.before.if1.true))
-    (λ c. simp c.if1.false))
+    (λ c. simp (← c.call_to.ensures, ← c.before.wz.ensures, c.before.before.if-met.true))
+    (λ c. simp c.if-met.false))

@@ -10,4 +10,4 @@ unfolding called
 call_to_spec =
     tie.close
     (tie.spec (search rules)
-    (λ c. simp (← c.down.ensures)))
+    (λ c. simp (← c.down-sp.ensures)))

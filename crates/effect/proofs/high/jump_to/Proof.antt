@@ -10,4 +10,4 @@ unfolding jumped
 jump_to_spec =
     tie.close
     (tie.spec (search rules)
-    (λ c. simp (← c.wz.ensures)))
+    (λ c. simp (← c.wz-pc.ensures)))

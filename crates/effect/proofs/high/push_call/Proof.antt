@@ -11,12 +11,12 @@ unfolding finish even calls
 push_call_spec =
     tie.close
     (tie.spec (search rules) (search rules) (search rules)
-    (λ c. simp (← c.down.ensures, eq-eqb _ _ c.before.if1.true))
+    (λ c. simp (← c.down-sp.ensures, eq-eqb _ _ c.before.if-y-eq0.true))
     (λ c.
     simp (
-      ← c.call-to.ensures,
+      ← c.call_to.ensures,
       ← c.before.wz.ensures,
-      eq-eqb _ _ c.before.before.if2.true,
-      ne_eqb _ _ c.before.before.before.if1.false,
+      eq-eqb _ _ c.before.before.if-y-eq0-2.true,
+      ne_eqb _ _ c.before.before.before.if-y-eq0.false,
     ))
-    (λ c. simp (ne_eqb _ _ c.if2.false, ne_eqb _ _ c.before.if1.false)))
+    (λ c. simp (ne_eqb _ _ c.if-y-eq0-2.false, ne_eqb _ _ c.before.if-y-eq0.false)))

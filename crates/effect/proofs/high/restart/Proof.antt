@@ -10,4 +10,4 @@ unfolding finish
 restart_spec =
     tie.close
     (tie.spec (search rules) (search rules)
-    (λ c. simp (← c.call-to.ensures)))
+    (λ c. simp (← c.call_to.ensures)))

@@ -12,7 +12,7 @@ unfolding finish rets nth
 ret_any_spec =
     tie.close
     (tie.spec (search rules) (search rules) (search rules) (search rules) (search rules)
-    (λ c. simp (← c.return_from.ensures, c.before.match.keys1))
-    (λ c. simp c.match.keys2)
-    (λ c. simp c.match.keys3)
+    (λ c. simp (← c.return_from.ensures, c.before.in-0.is))
+    (λ c. simp c.in-1.is)
+    (λ c. simp c.in-2.is)
     (λ c. simp (last 3 c.match.rest (omega arith))))

@@ -10,5 +10,5 @@ unfolding finish returned
 ret_if_spec =
     tie.close
     (tie.spec (search rules)
-    (λ c. simp (← c.return_from.ensures, c.before.if1.true))
-    (λ c. simp c.if1.false))
+    (λ c. simp (← c.return_from.ensures, c.before.if-met.true))
+    (λ c. simp c.if-met.false))

@@ -10,4 +10,4 @@ unfolding returned
 return_from_spec =
     tie.close
     (tie.spec (search rules) (search rules)
-    (λ c. simp (← c.up.ensures, ← c.before.wz.ensures)))
+    (λ c. simp (← c.up-sp.ensures, ← c.before.wz-pc.ensures)))

@@ -9,11 +9,11 @@ pub keep_spec : {M : Type 1} → statement M
 unfolding keep_of
 keep_spec =
     tie.close
-    (tie.spec (λ c. simp c.match.keys1)
-    (λ c. simp c.match.keys2)
-    (λ c. simp c.match.keys3)
-    (λ c. simp c.match.keys4)
-    (λ c. simp c.match.keys5)
+    (tie.spec (λ c. simp c.in-1.is)
+    (λ c. simp c.in-2.is)
+    (λ c. simp c.in-3.is)
+    (λ c. simp c.in-4.is)
+    (λ c. simp c.in-5.is)
     (λ c.
     simp (
       ne_eqb _ _ c.match.rest.1,

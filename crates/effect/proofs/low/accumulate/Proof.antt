@@ -12,7 +12,7 @@ accumulate_spec =
     (tie.spec (search rules) (search rules) (search rules)
     (λ c.
     simp (
-      ← c.with-result.ensures,
+      ← c.with_result.ensures,
       ← c.before.accumulator.ensures,
       ← c.before.before.flags_of.ensures,
     )))

@@ -10,4 +10,4 @@ unfolding counted
 count_in_spec =
     tie.close
     (tie.spec (search rules) (search rules)
-    (λ c. simp (← c.with-flags.ensures, ← c.before.with-reg.ensures)))
+    (λ c. simp (← c.with_flags.ensures, ← c.before.with_reg.ensures)))

@@ -13,16 +13,16 @@ inr_spec =
     (tie.spec (search rules) (search rules) (search rules) (search rules) (search rules) (search rules)
     (λ c.
     simp (
-      ← c.with-flags.ensures,
-      ← c.before.before.inr.ensures,
-      eq-eqb _ _ c.before.before.before.if1.true,
-      ← c.before.before.before.before.flags_of.ensures,
+      ← c.with_flags.ensures,
+      ← c.before.before.inr-x.ensures,
+      eq-eqb _ _ c.before.before.before.if-y-eq6.true,
+      ← c.before.before.before.before.flags_of-flags.ensures,
     ))
     (λ c.
     simp (
-      ← c.count-in.ensures,
-      ← c.before.inr2.ensures,
+      ← c.count_in.ensures,
+      ← c.before.inr.ensures,
       ← c.before.before.reg.ensures,
-      ne_eqb _ _ c.before.before.before.if1.false,
-      ← c.before.before.before.before.flags_of.ensures,
+      ne_eqb _ _ c.before.before.before.if-y-eq6.false,
+      ← c.before.before.before.before.flags_of-flags.ensures,
     )))

@@ -11,5 +11,5 @@ unfolding finish is_m
 mvi_spec =
     tie.close
     (tie.spec (search rules)
-    (λ c. simp (eq-eqb _ _ c.if1.true))
-    (λ c. simp (← c.with-reg.ensures, ne_eqb _ _ c.before.if1.false)))
+    (λ c. simp (eq-eqb _ _ c.if-y-eq6.true))
+    (λ c. simp (← c.with_reg.ensures, ne_eqb _ _ c.before.if-y-eq6.false)))

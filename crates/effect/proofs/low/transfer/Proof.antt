@@ -11,7 +11,7 @@ pub transfer_spec : {M : Type 1} → statement M
 unfolding finish transfers nth
 transfer_spec =
     tie.close
-    (tie.spec (λ c. simp c.match.keys1)
-    (λ c. simp c.match.keys2) (λ c. simp c.match.keys3) (λ c. simp c.match.keys4)
-    (λ c. simp c.match.keys5) (λ c. simp c.match.keys6) (λ c. simp c.match.keys7)
+    (tie.spec (λ c. simp c.in-0.is)
+    (λ c. simp c.in-1.is) (λ c. simp c.in-2.is) (λ c. simp c.in-3.is)
+    (λ c. simp c.in-4.is) (λ c. simp c.in-5.is) (λ c. simp c.in-6.is)
     (λ c. simp (last 7 c.match.rest (omega arith))))

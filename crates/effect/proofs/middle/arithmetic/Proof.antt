@@ -11,5 +11,5 @@ unfolding finish decode2 is_m
 arithmetic_spec =
     tie.close
     (tie.spec (search rules) (search rules) (search rules)
-    (λ c. simp (← c.compute.ensures, eq-eqb _ _ c.before.if1.true))
-    (λ c. simp (← c.compute2.ensures, ← c.before.reg.ensures, ne_eqb _ _ c.before.before.if1.false)))
+    (λ c. simp (← c.compute.ensures, eq-eqb _ _ c.before.if-z-eq6.true))
+    (λ c. simp (← c.compute-else-z-eq6.ensures, ← c.before.reg.ensures, ne_eqb _ _ c.before.before.if-z-eq6.false)))

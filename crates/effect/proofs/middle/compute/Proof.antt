@@ -12,7 +12,7 @@ compute_spec =
     (tie.spec (search rules) (search rules) (search rules)
     (λ c.
     simp (
-      ← c.with-result.ensures,
+      ← c.with_result.ensures,
       ← c.before.arithmetic.ensures,
-      ← c.before.before.flags_of.ensures,
+      ← c.before.before.flags_of-flags.ensures,
     )))

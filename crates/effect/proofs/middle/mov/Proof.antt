@@ -11,18 +11,18 @@ unfolding finish decode1 is_m
 mov_spec =
     tie.close
     (tie.spec (search rules) (search rules) (search rules)
-    (λ c. simp (eq-eqb _ _ c.if2.true, eq-eqb _ _ c.before.if1.true))
-    (λ c. simp (ne_eqb _ _ c.if2.false, eq-eqb _ _ c.before.if1.true))
+    (λ c. simp (eq-eqb _ _ c.if-z-eq6.true, eq-eqb _ _ c.before.if-y-eq6.true))
+    (λ c. simp (ne_eqb _ _ c.if-z-eq6.false, eq-eqb _ _ c.before.if-y-eq6.true))
     (λ c.
     simp (
-      ← c.with-reg.ensures,
-      eq-eqb _ _ c.before.if3.true,
-      ne_eqb _ _ c.before.before.if1.false,
+      ← c.with_reg.ensures,
+      eq-eqb _ _ c.before.if-z-eq6-2.true,
+      ne_eqb _ _ c.before.before.if-y-eq6.false,
     ))
     (λ c.
     simp (
-      ← c.with-reg2.ensures,
+      ← c.with_reg-else-z-eq6-2.ensures,
       ← c.before.reg.ensures,
-      ne_eqb _ _ c.before.before.if3.false,
-      ne_eqb _ _ c.before.before.before.if1.false,
+      ne_eqb _ _ c.before.before.if-z-eq6-2.false,
+      ne_eqb _ _ c.before.before.before.if-y-eq6.false,
     )))

@@ -11,12 +11,12 @@ unfolding pop_pair
 pop_pair_spec =
     tie.close
     (tie.spec (search rules) (search rules) (search rules)
-    (λ c. simp (c.match.keys1, ← c.before.up.ensures))
-    (λ c. simp (c.match.keys2, ← c.before.up.ensures))
-    (λ c. simp (c.match.keys3, ← c.before.up.ensures))
+    (λ c. simp (c.in-0.is, ← c.before.up-sp.ensures))
+    (λ c. simp (c.in-1.is, ← c.before.up-sp.ensures))
+    (λ c. simp (c.in-2.is, ← c.before.up-sp.ensures))
     (λ c.
     simp (
-      ← c.flag-byte.ensures,
+      ← c.flag_byte-f.ensures,
       ← c.before.flags_of.ensures,
       le-ltb _ _ (past 3 c.before.before.match.rest),
       ne_eqb _ _ c.before.before.match.rest.1,

@@ -10,4 +10,4 @@ unfolding with_flags
 with_flags_spec =
     tie.close
     (tie.spec (search rules)
-    (λ c. simp (← c.flag-byte.ensures)))
+    (λ c. simp (← c.flag_byte-f.ensures)))

@@ -11,9 +11,9 @@ unfolding with_pair
 with_pair_spec =
     tie.close
     (tie.spec (search rules) (search rules)
-    (λ c. simp c.match.keys1)
-    (λ c. simp c.match.keys2)
-    (λ c. simp c.match.keys3)
+    (λ c. simp c.in-0.is)
+    (λ c. simp c.in-1.is)
+    (λ c. simp c.in-2.is)
     (λ c.
     simp (
       le-ltb _ _ (past 3 c.match.rest),
