@@ -1,8 +1,7 @@
 -- `effect::bus::address` meets its contract.
 -- Assumes nothing.
-use Rattle.std.proofs.Common.{sym, rules}
+use Rattle.std.proofs.Common.{◌≤◌, sym, arith, rules}
 use lib.ListN.{get_or-eq_default}
-use Rattle.laws.proofs.Last.{past}
 use Rattle.effect.specs.Bus.{addresses, address_of}
 use Rattle.effect.proofs.bus.address.Statement.{statement}
 use Rattle.effect.proofs.bus.address.Tie as tie
@@ -27,6 +26,5 @@ address_spec =
     (λ c. simp c.before.in-11.is)
     (λ c. simp c.in-12.is)
     (λ c.
-    sym
-    (get_or-eq_default (addresses c.before.args.pc c.before.args.k c.before.args.r) 0
-    (past 13 c.match.rest))))
+    let past : 13 ≤ c.args.digit = omega arith in
+    sym (get_or-eq_default (addresses c.args.pc c.args.k c.args.r) 0 past)))

@@ -2,8 +2,7 @@
 -- Assumes nothing.
 use Rattle.effect.specs.Effect.{finish}
 use Rattle.opcodes.specs.Instructions.{decode3, nth}
-use Rattle.std.proofs.Common.{arith, rules}
-use Rattle.laws.proofs.Last.{last}
+use Rattle.std.proofs.Common.{◌≡◌, arith, rules}
 use Rattle.effect.proofs.high.high.Statement.{statement}
 use Rattle.effect.proofs.high.high.Tie as tie
 
@@ -13,11 +12,11 @@ high_spec =
     tie.close
     (tie.spec (search rules) (search rules) (search rules) (search rules) (search rules) (search rules) (search rules)
     (search rules)
-    (λ c. simp (← c.ret-if.ensures, c.before.match.keys1))
-    (λ c. simp (← c.pop-ret.ensures, c.before.match.keys2))
-    (λ c. simp (← c.jump-if.ensures, c.before.match.keys3))
-    (λ c. simp (← c.other.ensures, c.before.match.keys4))
-    (λ c. simp (← c.call-if.ensures, c.before.match.keys5))
-    (λ c. simp (← c.push-call.ensures, c.before.match.keys6))
-    (λ c. simp (← c.compute.ensures, c.before.match.keys7))
-    (λ c. simp (← c.restart.ensures, last 7 c.before.match.rest (omega arith))))
+    (λ c. simp (← c.ret_if.ensures, c.before.in-0.is))
+    (λ c. simp (← c.pop_ret.ensures, c.before.in-1.is))
+    (λ c. simp (← c.jump_if.ensures, c.before.in-2.is))
+    (λ c. simp (← c.other.ensures, c.before.in-3.is))
+    (λ c. simp (← c.call_if.ensures, c.before.in-4.is))
+    (λ c. simp (← c.push_call.ensures, c.before.in-5.is))
+    (λ c. simp (← c.compute.ensures, c.before.in-6.is))
+    (λ c. let e : c.args.z ≡ 7 = omega arith in simp (← c.restart.ensures, e)))

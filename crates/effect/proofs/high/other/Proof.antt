@@ -2,8 +2,7 @@
 -- Assumes nothing.
 use Rattle.effect.specs.Effect.{finish}
 use Rattle.opcodes.specs.Instructions.{others, nth}
-use Rattle.std.proofs.Common.{arith, rules}
-use Rattle.laws.proofs.Last.{last}
+use Rattle.std.proofs.Common.{◌≡◌, arith, rules}
 use Rattle.effect.proofs.high.other.Statement.{statement}
 use Rattle.effect.proofs.high.other.Tie as tie
 
@@ -14,4 +13,4 @@ other_spec =
     (tie.spec (search rules) (λ c. simp (← c.jump_to.ensures, c.before.in-0.is))
     (λ c. simp c.in-1.is) (λ c. simp c.in-2.is) (λ c. simp c.in-3.is)
     (λ c. simp c.in-4.is) (λ c. simp c.in-5.is) (λ c. simp c.in-6.is)
-    (λ c. simp (last 7 c.match.rest (omega arith))))
+    (λ c. let e : c.args.y ≡ 7 = omega arith in simp e))

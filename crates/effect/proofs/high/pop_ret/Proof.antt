@@ -11,5 +11,5 @@ unfolding finish even rets nth
 pop_ret_spec =
     tie.close
     (tie.spec (search rules) (search rules)
-    (λ c. simp (← c.pop-pair.ensures, eq-eqb _ _ c.before.if1.true))
-    (λ c. simp (← c.ret-any.ensures, ne_eqb _ _ c.before.if1.false)))
+    (λ c. simp (← c.pop_pair.ensures, eq-eqb _ _ c.before.if-y-eq0.true))
+    (λ c. simp (← c.ret_any.ensures, ne_eqb _ _ c.before.if-y-eq0.false)))

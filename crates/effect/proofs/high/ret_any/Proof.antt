@@ -2,8 +2,7 @@
 -- Assumes nothing.
 use Rattle.effect.specs.Effect.{finish}
 use Rattle.opcodes.specs.Instructions.{rets, nth}
-use Rattle.std.proofs.Common.{arith, rules}
-use Rattle.laws.proofs.Last.{last}
+use Rattle.std.proofs.Common.{◌≡◌, arith, rules}
 use Rattle.effect.proofs.high.ret_any.Statement.{statement}
 use Rattle.effect.proofs.high.ret_any.Tie as tie
 
@@ -15,4 +14,4 @@ ret_any_spec =
     (λ c. simp (← c.return_from.ensures, c.before.in-0.is))
     (λ c. simp c.in-1.is)
     (λ c. simp c.in-2.is)
-    (λ c. simp (last 3 c.match.rest (omega arith))))
+    (λ c. let e : c.args.p ≡ 3 = omega arith in simp e))

@@ -2,8 +2,7 @@
 -- Assumes nothing.
 use Rattle.effect.specs.Effect.{finish}
 use Rattle.opcodes.specs.Instructions.{decode, nth}
-use Rattle.std.proofs.Common.{arith, rules}
-use Rattle.laws.proofs.Last.{last}
+use Rattle.std.proofs.Common.{◌≡◌, arith, rules}
 use Rattle.effect.proofs.last.by_opcode.Statement.{statement}
 use Rattle.effect.proofs.last.by_opcode.Tie as tie
 
@@ -12,7 +11,7 @@ unfolding finish decode nth
 by_opcode_spec =
     tie.close
     (tie.spec (search rules) (search rules) (search rules) (search rules)
-    (λ c. simp (← c.low.ensures, c.before.match.keys1))
-    (λ c. simp (← c.mov.ensures, c.before.match.keys2))
-    (λ c. simp (← c.arithmetic.ensures, c.before.match.keys3))
-    (λ c. simp (← c.high.ensures, last 3 c.before.match.rest (omega arith))))
+    (λ c. simp (← c.low.ensures, c.before.in-0.is))
+    (λ c. simp (← c.mov.ensures, c.before.in-1.is))
+    (λ c. simp (← c.arithmetic.ensures, c.before.in-2.is))
+    (λ c. let e : c.args.x ≡ 3 = omega arith in simp (← c.high.ensures, e)))

@@ -12,11 +12,11 @@ dad_pair_spec =
     (tie.spec (search rules) (search rules) (search rules) (search rules) (search rules) (search rules) (search rules)
     (λ c.
     simp (
-      ← c.with-flags.ensures,
+      ← c.with_flags.ensures,
       ← c.before.with_pair.ensures,
-      ← c.before.before.with-cy.ensures,
+      ← c.before.before.with_cy-flags.ensures,
       ← c.before.before.before.flags_of.ensures,
-      ← c.before.before.before.before.dad.ensures,
-      ← c.before.before.before.before.before.pair2.ensures,
+      ← c.before.before.before.before.dad-sum.ensures,
+      ← c.before.before.before.before.before.pair-2.ensures,
       ← c.before.before.before.before.before.before.pair.ensures,
     )))

@@ -15,13 +15,13 @@ inx_dcx_spec =
     simp (
       ← c.with_pair.ensures,
       ← c.before.up.ensures,
-      eq-eqb _ _ c.before.before.if1.true,
-      ← c.before.before.before.pair.ensures,
+      eq-eqb _ _ c.before.before.if-y-eq0.true,
+      ← c.before.before.before.pair-v.ensures,
     ))
     (λ c.
     simp (
-      ← c.with-pair2.ensures,
+      ← c.with_pair-else-y-eq0.ensures,
       ← c.before.down.ensures,
-      ne_eqb _ _ c.before.before.if1.false,
-      ← c.before.before.before.pair.ensures,
+      ne_eqb _ _ c.before.before.if-y-eq0.false,
+      ← c.before.before.before.pair-v.ensures,
     )))

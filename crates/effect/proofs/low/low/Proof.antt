@@ -2,8 +2,7 @@
 -- Assumes nothing.
 use Rattle.effect.specs.Effect.{finish}
 use Rattle.opcodes.specs.Instructions.{decode0, nth}
-use Rattle.std.proofs.Common.{eqb, arith, rules}
-use Rattle.laws.proofs.Last.{last}
+use Rattle.std.proofs.Common.{◌≡◌, eqb, arith, rules}
 use Rattle.effect.proofs.Idle.{idle}
 use Rattle.effect.proofs.low.low.Statement.{statement}
 use Rattle.effect.proofs.low.low.Tie as tie
@@ -13,11 +12,11 @@ unfolding finish decode0 nth
 low_spec =
     tie.close
     (tie.spec (search rules) (search rules) (search rules) (search rules) (search rules) (search rules) (search rules)
-    (λ c. simp c.match.keys1 (idle (eqb c.before.args.y 0) _ _ _))
-    (λ c. simp (← c.lxi-dad.ensures, c.before.match.keys2))
-    (λ c. simp (← c.transfer.ensures, c.before.match.keys3))
-    (λ c. simp (← c.inx-dcx.ensures, c.before.match.keys4))
-    (λ c. simp (← c.inr.ensures, c.before.match.keys5))
-    (λ c. simp (← c.dcr.ensures, c.before.match.keys6))
-    (λ c. simp (← c.mvi.ensures, c.before.match.keys7))
-    (λ c. simp (← c.accumulate.ensures, last 7 c.before.match.rest (omega arith))))
+    (λ c. simp c.in-0.is (idle (eqb c.before.args.y 0) _ _ _))
+    (λ c. simp (← c.lxi_dad.ensures, c.before.in-1.is))
+    (λ c. simp (← c.transfer.ensures, c.before.in-2.is))
+    (λ c. simp (← c.inx_dcx.ensures, c.before.in-3.is))
+    (λ c. simp (← c.inr.ensures, c.before.in-4.is))
+    (λ c. simp (← c.dcr.ensures, c.before.in-5.is))
+    (λ c. simp (← c.mvi.ensures, c.before.in-6.is))
+    (λ c. let e : c.args.z ≡ 7 = omega arith in simp (← c.accumulate.ensures, e)))

@@ -11,5 +11,5 @@ unfolding finish even
 lxi_dad_spec =
     tie.close
     (tie.spec (search rules) (search rules) (search rules)
-    (λ c. simp (← c.with_pair.ensures, ← c.before.wz.ensures, eq-eqb _ _ c.before.before.if1.true))
-    (λ c. simp (← c.dad-pair.ensures, ne_eqb _ _ c.before.if1.false)))
+    (λ c. simp (← c.with_pair.ensures, ← c.before.wz.ensures, eq-eqb _ _ c.before.before.if-y-eq0.true))
+    (λ c. simp (← c.dad_pair.ensures, ne_eqb _ _ c.before.if-y-eq0.false)))
