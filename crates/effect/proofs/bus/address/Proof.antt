@@ -1,6 +1,6 @@
 -- `effect::bus::address` meets its contract.
 -- Assumes nothing.
-use Rattle.std.proofs.Common.{◌≤◌, sym, arith, rules}
+use Rattle.std.proofs.Common.{◌≤◌, ◌/◌, sym, arith, rules}
 use lib.ListN.{get_or-eq_default}
 use Rattle.effect.specs.Bus.{addresses, address_of}
 use Rattle.effect.proofs.bus.address.Statement.{statement}
@@ -26,5 +26,5 @@ address_spec =
     (λ c. simp c.before.in-11.is)
     (λ c. simp c.in-12.is)
     (λ c.
-    let past : 13 ≤ c.args.digit = omega arith in
+    let past : 13 ≤ c.args.code / 16 = omega arith in
     sym (get_or-eq_default (addresses c.args.pc c.args.k c.args.r) 0 past)))

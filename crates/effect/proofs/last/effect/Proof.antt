@@ -10,4 +10,4 @@ unfolding effect_of
 effect_spec =
     tie.close
     (tie.spec (search rules) (search rules)
-    (λ c. simp (← c.by-opcode.ensures, ← c.before.met.ensures)))
+    (λ c. simp (← c.by_opcode.ensures, ← c.before.met.ensures)))
