@@ -30,7 +30,7 @@ parity_spec =
     tie.close
     (tie.spec (search rules) (search rules) (search rules) (search rules) (search rules) (search rules) (search rules)
     (search rules)
-    (λ c. right-at _ 0 c.before.ranges.v.fits c.in-0.is)
-    (λ c. right-at _ 1 c.before.ranges.v.fits c.in-1.is)
-    (λ c. right-at _ 2 c.before.ranges.v.fits c.in-2.is)
-    (λ c. right-at _ 3 c.before.ranges.v.fits (omega arith)))
+    (λ c. right-at _ 0 c.ranges.v.fits c.in-0.is)
+    (λ c. right-at _ 1 c.ranges.v.fits c.in-1.is)
+    (λ c. right-at _ 2 c.ranges.v.fits c.in-2.is)
+    (λ c. right-at _ 3 c.ranges.v.fits (omega arith)))

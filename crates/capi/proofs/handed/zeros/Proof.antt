@@ -22,7 +22,7 @@ decreases-loop z i n left₀ at₀ left at = left
 loop-again : tie.Need-loop-preserved invariant-loop decreases-loop
 loop-again c = (
   omega arith,
-  all_go (zero_at c.before.before.before.before.args.z.now) _ _ c.before.before.loop-test.true
+  all_go (zero_at c.args.z.now) _ _ c.before.before.loop-test.true
       (eq-eqb _ _ c.if1.true)
       ∙ c.before.before.before.loop.invariant.1,
 )
@@ -30,12 +30,12 @@ loop-again c = (
 returns : tie.Need-returns invariant-loop decreases-loop
 returns c =
     sym
-    (all-stop (zero_at c.before.before.before.before.args.z.now) _ _ c.before.before.loop-test.true
+    (all-stop (zero_at c.args.z.now) _ _ c.before.before.loop-test.true
     (ne_eqb _ _ c.if1.false))
     ∙ c.before.before.before.loop.invariant.1
 
 returns-2 : tie.Need-returns-2 invariant-loop decreases-loop
-returns-2 c = sym (all_end (zero_at c.before.before.args.z.now) _ _ c.loop-test.false) ∙ c.before.loop.invariant.1
+returns-2 c = sym (all_end (zero_at c.args.z.now) _ _ c.loop-test.false) ∙ c.before.loop.invariant.1
 
 pub zeros_spec : {M : Type 1} → statement M
 zeros_spec =

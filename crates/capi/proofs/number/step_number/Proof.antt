@@ -10,7 +10,7 @@ use Rattle.capi.proofs.number.step_number.Tie as tie
 
 -- past the tests 8 and 9 the number says whether the machine has stopped
 by-stop : (c : tie.After-stopped)
-    → step_number c.before.before.before.before.before.args.m ≡ pick c.stopped.result 10 0
+    → step_number c.args.m ≡ pick c.stopped.result 10 0
 unfolding step_number
 by-stop c =
     let test = c.before.before.before in

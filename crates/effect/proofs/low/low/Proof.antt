@@ -12,7 +12,7 @@ unfolding finish decode0 nth
 low_spec =
     tie.close
     (tie.spec (search rules) (search rules) (search rules) (search rules) (search rules) (search rules) (search rules)
-    (λ c. simp c.in-0.is (idle (eqb c.before.args.y 0) _ _ _))
+    (λ c. simp c.in-0.is (idle (eqb c.args.y 0) _ _ _))
     (λ c. simp (← c.lxi_dad.ensures, c.before.in-1.is))
     (λ c. simp (← c.transfer.ensures, c.before.in-2.is))
     (λ c. simp (← c.inx_dcx.ensures, c.before.in-3.is))

@@ -11,5 +11,5 @@ unfolding after_of
 after_spec =
     tie.close
     (tie.spec (search rules)
-    (λ c. simp (le-leb _ _ c.if1.true, le-ltb _ _ c.if1.true))
-    (λ c. simp (lt-ltb _ _ c.if1.false, lt-leb _ _ c.if1.false)))
+    (λ c. simp (le-leb _ _ c.if-n-c.true, le-ltb _ _ c.if-n-c.true))
+    (λ c. simp (lt-ltb _ _ c.if-n-c.false, lt-leb _ _ c.if-n-c.false)))

@@ -10,7 +10,7 @@ code_at_spec =
     tie.close
     (tie.spec (search rules) (search rules)
     (λ c.
-    let op = c.before.before.args.op in
-    let small = c.before.before.ranges.op.fits in
-    simp (c.code.ensures, c.before.entry.ensures, c.before.before.requires, entry_at op small)
-    (code-in op small c.before.before.args.c)))
+    let op = c.args.op in
+    let small = c.ranges.op.fits in
+    simp (c.code.ensures, c.before.entry.ensures, c.requires, entry_at op small)
+    (code-in op small c.args.c)))

@@ -9,11 +9,11 @@ pub cycle_at_spec : {M : Type 1} → statement M
 unfolding cycle_of
 cycle_at_spec =
     tie.close
-    (tie.spec (λ c κs. c.requires) (search rules) (λ c κs. c.before.before.requires) (search rules)
+    (tie.spec (λ c κs. c.requires) (search rules) (λ c κs. c.requires) (search rules)
     (λ c.
     simp (
       ← c.after.ensures,
       ← c.before.cycles.ensures.0,
       ← c.before.before.states.ensures,
-      ← c.before.before.before.code_at.ensures,
+      ← c.before.before.before.code_at-code.ensures,
     )))

@@ -12,13 +12,13 @@ cycles_spec =
     tie.close
     (tie.spec (search rules) (search rules) (search rules)
     (λ c.
-    let op = c.before.before.before.args.op in
-    let small = c.before.before.before.ranges.op.fits in (
+    let op = c.args.op in
+    let small = c.ranges.op.fits in (
       simp (
         c.count.ensures.0,
         c.before.met.ensures,
         c.before.before.entry.ensures,
-        c.before.before.before.requires,
+        c.requires,
         entry_at op small,
       )
           (count-in op small _),

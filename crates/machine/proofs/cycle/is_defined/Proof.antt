@@ -10,7 +10,7 @@ is_defined_spec =
     tie.close
     (tie.spec (search rules) (search rules)
     (λ c.
-    let op = c.before.before.args.op in
-    let small = c.before.before.ranges.op.fits in
-    simp (c.defined.ensures, c.before.entry.ensures, c.before.before.requires, entry_at op small)
+    let op = c.args.op in
+    let small = c.ranges.op.fits in
+    simp (c.defined.ensures, c.before.entry.ensures, c.requires, entry_at op small)
     (defined-in op small)))

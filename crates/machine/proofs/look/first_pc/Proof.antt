@@ -15,13 +15,13 @@ unfolding first_pc_of
 first_pc_spec =
     tie.close
     (tie.spec
-    (λ c. simp (le-ltb _ _ c.if1.true, and_false))
+    (λ c. simp (le-ltb _ _ c.if-s-le2.true, and_false))
     (search rules) (search rules)
     (λ c.
     simp (
       ← c.down.ensures,
-      c.before.if2.true,
+      c.before.if-raises.true,
       ← c.before.before.raises.ensures,
-      lt-ltb _ _ c.before.before.before.if1.false,
+      lt-ltb _ _ c.before.before.before.if-s-le2.false,
     ))
-    (λ c. simp (c.if2.false, ← c.before.raises.ensures)))
+    (λ c. simp (c.if-raises.false, ← c.before.raises.ensures)))

@@ -9,6 +9,6 @@ pub shown_spec : {M : Type 1} → statement M
 unfolding shown_of
 shown_spec =
     tie.close
-    (tie.spec (λ c κs. c.before.before.requires)
-    (λ c. simp (eq-eqb _ _ c.if1.true))
-    (λ c. simp (← c.code_at.ensures, ne_eqb _ _ c.before.if1.false)))
+    (tie.spec (λ c κs. c.requires)
+    (λ c. simp (eq-eqb _ _ c.if-p-eq8.true))
+    (λ c. simp (← c.code_at.ensures, ne_eqb _ _ c.before.if-p-eq8.false)))

@@ -7,4 +7,4 @@ use Rattle.machine.proofs.record.stopped.Tie as tie
 
 pub stopped_spec : {M : Type 1} → statement M
 unfolding stopped_of
-stopped_spec = tie.close (tie.spec (search rules) (λ c. rw (← c.next-number.ensures)))
+stopped_spec = tie.close (tie.spec (search rules) (λ c. rw (← c.next_number.ensures)))

@@ -10,5 +10,5 @@ unfolding ticked_of
 ticked_spec =
     tie.close
     (tie.spec (search rules) (search rules)
-    (λ c. simp (← c.before.stopped.ensures, c.if1.true))
-    (λ c. simp (← c.before.before.stopped.ensures, c.before.if1.false, ← c.wrapping-add-u32.ensures)))
+    (λ c. simp (← c.before.stopped.ensures, c.if-stopped.true))
+    (λ c. simp (← c.before.before.stopped.ensures, c.before.if-stopped.false, ← c.wrapping_add_u32.ensures)))

@@ -1,11 +1,10 @@
 -- `machine::request::asked` meets its contract.
 -- Assumes nothing.
-use Rattle.std.proofs.Common.{sym, rules}
+use Rattle.std.proofs.Common.{◌≤◌, sym, arith, rules}
 use lib.ListN.{get_or-eq_default}
 use Rattle.machine.specs.declared.request.Request.TheVariants.{Nothing}
 use Rattle.effect.specs.Bus.{given_of}
 use Rattle.machine.specs.Request.{asks, asked_of}
-use Rattle.laws.proofs.Last.{past}
 use Rattle.machine.proofs.request.asked.Statement.{statement}
 use Rattle.machine.proofs.request.asked.Tie as tie
 
@@ -14,18 +13,17 @@ unfolding asked_of
 asked_spec =
     tie.close
     (tie.spec (search rules) (search rules) (search rules) (search rules) (search rules)
-    (λ c. simp c.match.keys1)
-    (λ c. simp c.match.keys2)
-    (λ c. simp c.match.keys3)
-    (λ c. simp (← c.given.ensures, c.before.match.keys4))
-    (λ c. simp c.match.keys5)
-    (λ c. simp (← c.given2.ensures, c.before.match.keys6))
-    (λ c. simp c.match.keys7)
-    (λ c. simp (← c.given3.ensures, c.before.match.keys8))
-    (λ c. simp (← c.restart.ensures, c.before.match.keys9))
-    (λ c. simp c.match.keys10)
-    (λ c. simp (← c.restart2.ensures, c.before.match.keys11))
+    (λ c. simp c.in-0.is)
+    (λ c. simp c.in-1.is)
+    (λ c. simp c.in-2.is)
+    (λ c. simp (← c.given.ensures, c.before.in-3.is))
+    (λ c. simp c.in-4.is)
+    (λ c. simp (← c.given-in-5.ensures, c.before.in-5.is))
+    (λ c. simp c.in-6.is)
+    (λ c. simp (← c.given-in-7.ensures, c.before.in-7.is))
+    (λ c. simp (← c.restart.ensures, c.before.in-8.is))
+    (λ c. simp c.in-9.is)
+    (λ c. simp (← c.restart-in-10.ensures, c.before.in-10.is))
     (λ c.
-    sym
-    (get_or-eq_default (asks c.before.args.a (given_of c.before.args.code c.before.args.k c.before.args.r) c.before.args.k) Nothing
-    (past 11 c.match.rest))))
+    let past : 11 ≤ c.args.kind = omega arith in
+    sym (get_or-eq_default (asks c.args.a (given_of c.args.code c.args.k c.args.r) c.args.k) Nothing past)))

@@ -13,10 +13,10 @@ levels_spec =
     (search rules) (search rules) (search rules)
     (λ c.
     simp (
-      ← c.bit4.ensures.0,
-      ← c.before.bit3.ensures.0,
-      c.before.before.struct-known3.given.1,
-      ← c.before.before.before.bit2.ensures.0,
-      c.before.before.before.before.struct-known2.given.1,
+      ← c.bit-4.ensures.0,
+      ← c.before.bit-3.ensures.0,
+      c.before.before.struct_known-3-1.given.1,
+      ← c.before.before.before.bit-2.ensures.0,
+      c.before.before.before.before.struct_known-2-1.given.1,
       ← c.before.before.before.before.before.bit.ensures.0,
     )))

@@ -10,5 +10,5 @@ unfolding risen_of
 risen_spec =
     tie.close
     (tie.spec (search rules) (search rules)
-    (λ c. simp (← c.up.ensures, c.before.if1.true, ← c.before.before.raises.ensures))
-    (λ c. simp (c.if1.false, ← c.before.raises.ensures)))
+    (λ c. simp (← c.up-pc.ensures, c.before.if-raises.true, ← c.before.before.raises.ensures))
+    (λ c. simp (c.if-raises.false, ← c.before.raises.ensures)))

@@ -7,5 +7,5 @@ use Rattle.machine.proofs.step.state_after.Tie as tie
 pub state_after_spec : {M : Type 1} → statement M
 state_after_spec =
     tie.close
-    (tie.spec (λ c. simp (eq-eqb _ _ c.if1.true))
-    (λ c. simp (ne_eqb _ _ c.if1.false)))
+    (tie.spec (λ c. simp (eq-eqb _ _ c.if-s-eq3.true))
+    (λ c. simp (ne_eqb _ _ c.if-s-eq3.false)))

@@ -14,6 +14,6 @@ acked_spec =
     simp (
       ← c.idle.ensures,
       ← c.before.before.before.before.restart.ensures,
-      ← c.before.before.before.before.before.cycles-done.ensures,
-      ← c.before.before.before.before.before.before.is_none.ensures,
+      ← c.before.before.before.before.before.cycles_done.ensures,
+      ← c.before.before.before.before.before.before.is_none-none.ensures,
     )))

@@ -9,12 +9,12 @@ pub bytes_spec : {M : Type 1} → statement M
 unfolding bytes_of
 bytes_spec =
     tie.close
-    (tie.spec (λ c κs. c.requires) (λ c κs. c.before.requires) (λ c κs. c.before.before.requires)
-    (λ c κs. c.before.before.before.requires)
+    (tie.spec (λ c κs. c.requires) (λ c κs. c.requires) (λ c κs. c.requires)
+    (λ c κs. c.requires)
     (λ c.
     simp (
-      ← c.zero-or-read4.ensures,
-      ← c.before.zero-or-read3.ensures,
-      ← c.before.before.zero-or-read2.ensures,
-      ← c.before.before.before.zero-or-read.ensures,
+      ← c.zero_or_read-4.ensures,
+      ← c.before.zero_or_read-3.ensures,
+      ← c.before.before.zero_or_read-2.ensures,
+      ← c.before.before.before.zero_or_read.ensures,
     )))

@@ -12,16 +12,16 @@ cycles_done_spec =
     tie.close
     (tie.spec (search rules) (search rules) (search rules) (search rules) (search rules) (search rules) (search rules)
     (search rules)
-    (λ c. simp c.enum_told.given.1)
+    (λ c. simp c.in-Fetch.is)
     (λ c.
     simp (
       ← c.less.ensures,
-      le-leb _ _ c.before.if1.true,
-      le-ltb _ _ c.before.if1.true,
-      c.before.before.before.p.given.1,
+      le-leb _ _ c.before.if-s-le3.true,
+      le-ltb _ _ c.before.if-s-le3.true,
+      c.in-Later.is,
     ))
-    (λ c. simp (lt-ltb _ _ c.if1.false, lt-leb _ _ c.if1.false, c.before.before.p.given.1))
-    (λ c. simp (← c.less2.ensures, c.before.before.p2.given.1))
-    (λ c. simp c.before.p3.given.1)
-    (λ c. simp c.enum-told2.given.1)
-    (λ c. simp c.enum-told3.given.1))
+    (λ c. simp (lt-ltb _ _ c.if-s-le3.false, lt-leb _ _ c.if-s-le3.false, c.in-Later.is))
+    (λ c. simp (← c.less-in-Wait.ensures, c.in-Wait.is))
+    (λ c. simp c.in-Hold.is)
+    (λ c. simp c.in-Halt.is)
+    (λ c. simp c.in-Stop.is))

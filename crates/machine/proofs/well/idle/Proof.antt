@@ -7,4 +7,4 @@ use Rattle.machine.proofs.well.idle.Tie as tie
 
 pub idle_spec : {M : Type 1} → statement M
 unfolding idle_of
-idle_spec = tie.close (tie.spec (search rules) (λ c. rw (← c.next-number.ensures)))
+idle_spec = tie.close (tie.spec (search rules) (λ c. rw (← c.next_number-n.ensures)))

@@ -20,11 +20,11 @@ kind_spec =
       ne_eqb _ _ c.before.before.if-digit-eq-FETCH.false,
       ← c.before.writes.ensures,
       c.if-writes.true,
-      kind_is (c.before.before.before.args.code / 16) (omega arith),
+      kind_is (c.args.code / 16) (omega arith),
     ))
     (λ c. simp (
       ne_eqb _ _ c.before.before.if-digit-eq-FETCH.false,
       ← c.before.writes.ensures,
       c.if-writes.false,
-      kind_is (c.before.before.before.args.code / 16) (omega arith),
+      kind_is (c.args.code / 16) (omega arith),
     )))

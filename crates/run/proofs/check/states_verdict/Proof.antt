@@ -25,7 +25,7 @@ states_verdict_spec =
     (λ c.
     simp (
       c.no3.ensures,
-      lt-leb (c.before.before.before.before.before.before.before.args.m.clock + c.before.before.before.before.before.before.before.args.n)
+      lt-leb (c.args.m.clock + c.args.n)
           4294967295 (omega (arith, c.before.if4.true)),
       c.before.before.before.if3.true,
       ← c.before.before.before.before.well.ensures,
@@ -34,7 +34,7 @@ states_verdict_spec =
     ))
     (λ c.
     simp (
-      le-leb (c.before.before.before.before.before.before.args.m.clock + c.before.before.before.before.before.before.args.n)
+      le-leb (c.args.m.clock + c.args.n)
           4294967295 (omega (arith, c.if4.false)),
       c.before.before.if3.true,
       ← c.before.before.before.well.ensures,

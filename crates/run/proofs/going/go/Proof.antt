@@ -26,7 +26,7 @@ loop-holds c =
       outputs = refl;
       trace = refl;
       run = refl;
-      time = c.before.before.before.before.before.before.requires.time;
+      time = c.requires.time;
       within = search rules;
       past = λ j p. absurd (let no : ⊥ = omega arith in no);
     }
@@ -47,19 +47,19 @@ returns c =
 levels-at-requires : tie.Need-levels-at-requires invariant-loop decreases-loop
 levels-at-requires c κs =
     let inv = c.before.before.before.before.loop.invariant in
-    let fit = c.before.before.before.before.before.before.before.before.before.before.before.requires in
+    let fit = c.requires in
     record { room = omega arith; within = inv.within; sorted = fit.sorted; past = inv.past }
 
 mul-state : tie.Need-overflow-mul-state invariant-loop decreases-loop
 mul-state c =
     let inv = c.before.before.before.before.before.before.before.before.before.before.loop.invariant in
-    let fit = c.before.before.before.before.before.before.before.before.before.before.before.before.before.before.before.before.before.requires in
+    let fit = c.requires in
     omega (arith, inv.total, fit.few)
 
 state-requires : tie.Need-state-requires invariant-loop decreases-loop
 state-requires c κs =
     let inv = c.before.before.before.before.before.before.before.before.before.before.before.loop.invariant in
-    let fit = c.before.before.before.before.before.before.before.before.before.before.before.before.before.before.before.before.before.before.requires in
+    let fit = c.requires in
     record {
       memory = inv.memory ∙ fit.memory;
       inputs = fit.inputs;
@@ -71,7 +71,7 @@ state-requires c κs =
 add_done : tie.Need-overflow-add-done invariant-loop decreases-loop
 add_done c =
     let inv = c.before.before.before.before.before.before.before.before.before.before.before.before.before.before.before.before.before.before.loop.invariant in
-    let fit = c.before.before.before.before.before.before.before.before.before.before.before.before.before.before.before.before.before.before.before.before.before.before.before.before.before.requires in
+    let fit = c.requires in
     omega (arith, inv.total, fit.few)
 
 -- a turn

@@ -29,10 +29,10 @@ returns c =
     }
 
 look-requires : tie.Need-look-requires
-look-requires c κs = c.before.before.before.before.requires.table
+look-requires c κs = c.requires.table
 
 step-by-requires : tie.Need-step-by-requires
-step-by-requires c κs = c.before.before.before.before.before.before.before.before.before.before.before.before.before.before.before.before.before.before.before.before.before.requires.table
+step-by-requires c κs = c.requires.table
 
 pub state_spec : {M : Type 1} → statement M
 state_spec =

@@ -14,8 +14,8 @@ state_number_spec =
     (search rules) (search rules) (search rules) (search rules)
     (λ c.
     simp (
-      c.wide4.ensures.0,
-      c.before.before.wide3.ensures.0,
-      c.before.before.before.before.wide2.ensures.0,
+      c.wide-4.ensures.0,
+      c.before.before.wide-3.ensures.0,
+      c.before.before.before.before.wide-2.ensures.0,
       c.before.before.before.before.before.before.wide.ensures.0,
     )))

@@ -12,11 +12,11 @@ unfolding act_of
 act_spec =
     tie.close
     (tie.spec
-    (λ c. rw c.if1.true)
-    (λ c. rw c.if2.true)
+    (λ c. rw c.if-line-eq0.true)
+    (λ c. rw c.if-line-eq1.true)
     (λ c.
     simp (
-      ne_eqb _ _ c.before.if1.false,
-      ne_eqb _ _ c.if2.false,
-      le-ltb c.before.before.args.line 2 (omega arith),
+      ne_eqb _ _ c.before.if-line-eq0.false,
+      ne_eqb _ _ c.if-line-eq1.false,
+      le-ltb c.args.line 2 (omega arith),
     )))

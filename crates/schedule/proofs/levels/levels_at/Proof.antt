@@ -21,9 +21,9 @@ decreases-loop s n from t i₀ cur₀ i cur = n - i
 
 loop-holds : tie.Need-loop-init invariant-loop decreases-loop
 loop-holds c = (
-  c.before.requires.within,
-  sym (levels-before _ _ _ _ c.before.requires.past),
-  λ j p. omega (arith, c.before.requires.past j p),
+  c.requires.within,
+  sym (levels-before _ _ _ _ c.requires.past),
+  λ j p. omega (arith, c.requires.past j p),
 )
 
 returns : tie.Need-returns invariant-loop decreases-loop
@@ -36,7 +36,7 @@ returns c =
           (λ j p q.
           omega (
             arith,
-            c.before.before.before.before.before.requires.sorted _ j p q,
+            c.requires.sorted _ j p q,
             c.if1.true,
             c.before.state-number.ensures,
           )));
@@ -49,8 +49,8 @@ loop-again c = (
   omega arith,
   c.once.ensures
       ∙ ap
-      (once_of c.before.before.before.before.before.before.args.s.now c.before.before.before.before.loop.i
-      c.before.before.before.before.before.before.args.t)
+      (once_of c.args.s.now c.before.before.before.before.loop.i
+      c.args.t)
       c.before.before.before.before.loop.invariant.1
       ∙ sym (levels-next _ _ _ _),
   below_more _ _ c.before.before.before.before.loop.invariant.2

@@ -14,7 +14,7 @@ once_spec =
     (λ c.
     simp (
       ← c.act.ensures,
-      eq-eqb _ _ c.before.before.before.if1.true,
-      ← c.before.before.before.before.state-number.ensures,
+      eq-eqb _ _ c.before.before.before.if-state_number-t.true,
+      ← c.before.before.before.before.state_number.ensures,
     ))
-    (λ c. simp (ne_eqb _ _ c.if1.false, ← c.before.state-number.ensures)))
+    (λ c. simp (ne_eqb _ _ c.if-state_number-t.false, ← c.before.state_number.ensures)))

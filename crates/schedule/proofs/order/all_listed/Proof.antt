@@ -20,7 +20,7 @@ decreases-loop s n left₀ i₀ left i = left
 loop-again : tie.Need-loop-preserved invariant-loop decreases-loop
 loop-again c = (
   omega arith,
-  all_go (listed_at c.before.before.before.before.before.before.before.args.s.now) _ _
+  all_go (listed_at c.args.s.now) _ _
       c.before.before.before.before.loop-test.true
       (sym c.before.listed.ensures ∙ c.if1.true)
       ∙ c.before.before.before.before.before.loop.invariant.1,
@@ -29,14 +29,14 @@ loop-again c = (
 returns : tie.Need-returns invariant-loop decreases-loop
 returns c =
     sym
-    (all-stop (listed_at c.before.before.before.before.before.before.before.args.s.now) _ _
+    (all-stop (listed_at c.args.s.now) _ _
     c.before.before.before.before.loop-test.true
     (sym c.before.listed.ensures ∙ c.if1.false))
     ∙ c.before.before.before.before.before.loop.invariant.1
 
 returns-2 : tie.Need-returns-2 invariant-loop decreases-loop
 returns-2 c =
-    sym (all_end (listed_at c.before.before.before.args.s.now) _ _ c.loop-test.false) ∙ c.before.loop.invariant.1
+    sym (all_end (listed_at c.args.s.now) _ _ c.loop-test.false) ∙ c.before.loop.invariant.1
 
 pub all_listed_spec : {M : Type 1} → statement M
 all_listed_spec =

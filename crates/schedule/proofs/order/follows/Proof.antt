@@ -13,6 +13,6 @@ follows_spec =
     (search rules) (search rules)
     (λ c.
     simp (
-      ← c.before.before.state-number2.ensures,
-      ← c.before.before.before.state-number.ensures,
+      ← c.before.before.state_number-y.ensures,
+      ← c.before.before.before.state_number-x.ensures,
     )))

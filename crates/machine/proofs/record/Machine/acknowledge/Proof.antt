@@ -10,4 +10,4 @@ unfolding acknowledge_of
 acknowledge_spec =
     tie.close
     (tie.spec (search rules)
-    (λ c. simp (← c.kept_for.ensures)))
+    (λ c. simp (← c.kept_for-kept.ensures)))

@@ -13,28 +13,28 @@ ended_spec =
     (λ c.
     simp (
       ← c.acknowledge.ensures,
-      eq-eqb _ _ c.before.if2.true,
-      c.before.before.before.if1.true,
+      eq-eqb _ _ c.before.if-kept-eq-HLT.true,
+      c.before.before.before.if-takes.true,
       ← c.before.before.before.before.takes.ensures,
     ))
     (λ c.
     simp (
-      ← c.acknowledge2.ensures,
-      ne_eqb _ _ c.before.if2.false,
-      c.before.before.before.if1.true,
+      ← c.acknowledge-else-kept-eq-HLT.ensures,
+      ne_eqb _ _ c.before.if-kept-eq-HLT.false,
+      c.before.before.before.if-takes.true,
       ← c.before.before.before.before.takes.ensures,
     ))
     (λ c.
     simp (
       ← c.clear.ensures,
-      eq-eqb _ _ c.before.if3.true,
-      c.before.before.before.if1.false,
+      eq-eqb _ _ c.before.if-kept-eq-HLT-2.true,
+      c.before.before.before.if-takes.false,
       ← c.before.before.before.before.takes.ensures,
     ))
     (λ c.
     simp (
-      ← c.clear2.ensures,
-      ne_eqb _ _ c.before.if3.false,
-      c.before.before.before.if1.false,
+      ← c.clear-else-kept-eq-HLT-2.ensures,
+      ne_eqb _ _ c.before.if-kept-eq-HLT-2.false,
+      c.before.before.before.if-takes.false,
       ← c.before.before.before.before.takes.ensures,
     )))

@@ -12,9 +12,9 @@ fetched_spec =
     (tie.spec (search rules) (search rules) (search rules) (search rules)
     (λ c.
     simp (
-      ← c.with-next.ensures,
-      ← c.before.with-kept.ensures,
+      ← c.with_next.ensures,
+      ← c.before.with_kept.ensures,
       ← c.before.before.keep.ensures,
-      c.before.before.before.if1.true,
+      c.before.before.before.if-defined.true,
     ))
-    (λ c. simp (← c.clear.ensures, c.before.if1.false)))
+    (λ c. simp (← c.clear.ensures, c.before.if-defined.false)))

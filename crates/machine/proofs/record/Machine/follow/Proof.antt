@@ -10,5 +10,5 @@ unfolding follow_of
 follow_spec =
     tie.close
     (tie.spec (search rules) (search rules)
-    (λ c. simp (← c.ended.ensures, eq-eqb _ _ c.before.if1.true))
-    (λ c. simp (← c.with-next.ensures, ne_eqb _ _ c.before.if1.false)))
+    (λ c. simp (← c.ended.ensures, eq-eqb _ _ c.before.if-n-eq0.true))
+    (λ c. simp (← c.with_next.ensures, ne_eqb _ _ c.before.if-n-eq0.false)))

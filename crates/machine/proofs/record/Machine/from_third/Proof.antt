@@ -10,14 +10,14 @@ from_third_spec =
     tie.close
     (tie.spec (search rules) (search rules) (search rules) (search rules) (search rules)
     (λ c.
-    let a = c.before.before.before.before.args in
-    onward_once a.y a.c a.s a.v a.self _ _ true _ c.before.before.before.took_in.ensures
-    (sym c.before.if1.true ∙ c.before.before.over.ensures)
+    let a = c.args in
+    onward_once a.y a.c a.s a.v a.self _ _ true _ c.before.before.before.took_in-took.ensures
+    (sym c.before.if-over.true ∙ c.before.before.over.ensures)
     refl
     c.end.ensures)
     (λ c.
-    let a = c.before.before.before.before.before.args in
-    onward_once a.y a.c a.s a.v a.self _ _ false _ c.before.before.before.before.took_in.ensures
-    (sym c.before.before.if1.false ∙ c.before.before.before.over.ensures)
-    c.before.state-after.ensures
-    c.with-next.ensures))
+    let a = c.args in
+    onward_once a.y a.c a.s a.v a.self _ _ false _ c.before.before.before.before.took_in-took.ensures
+    (sym c.before.before.if-over.false ∙ c.before.before.before.over.ensures)
+    c.before.state_after.ensures
+    c.with_next.ensures))

@@ -10,4 +10,4 @@ unfolding halted_of
 halted_spec =
     tie.close
     (tie.spec (search rules) (search rules) (search rules)
-    (λ c. simp (← c.hold.ensures, ← c.before.with-kept.ensures, ← c.before.before.keep.ensures)))
+    (λ c. simp (← c.hold.ensures, ← c.before.with_kept.ensures, ← c.before.before.keep.ensures)))

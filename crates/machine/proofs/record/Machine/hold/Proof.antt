@@ -10,5 +10,5 @@ unfolding hold_of
 hold_spec =
     tie.close
     (tie.spec (search rules) (search rules)
-    (λ c. simp (← c.with-next.ensures, eq-eqb _ _ c.before.if1.true))
-    (λ c. simp (← c.follow.ensures, ne_eqb _ _ c.before.if1.false)))
+    (λ c. simp (← c.with_next.ensures, eq-eqb _ _ c.before.if-lines-eq1.true))
+    (λ c. simp (← c.follow.ensures, ne_eqb _ _ c.before.if-lines-eq1.false)))

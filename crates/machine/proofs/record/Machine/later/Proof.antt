@@ -7,26 +7,26 @@ use Rattle.machine.proofs.record.Machine.later.Statement.{statement}
 use Rattle.machine.proofs.record.Machine.later.Tie as tie
 
 -- T3 of a fetch, and any other state from T3 on
-fetches : tie.Need-returns-3
+fetches : tie.Need-returns-then-s-c
 unfolding later_of
 fetches c =
     simp (
       ← c.fetched.ensures,
-      ← c.before.is-defined.ensures,
-      c.before.before.if3.true,
-      ne_eqb _ _ c.before.before.before.if2.false,
-      ne_eqb _ _ c.before.before.before.before.if1.false,
+      ← c.before.is_defined.ensures,
+      c.before.before.if-s-c.true,
+      ne_eqb _ _ c.before.before.before.if-s-eq2.false,
+      ne_eqb _ _ c.before.before.before.before.if-s-eq1.false,
     )
 
-goes_on : tie.Need-returns-4
+goes_on : tie.Need-returns
 unfolding later_of
 goes_on c =
     simp (
-      ← c.from-third.ensures,
-      ← c.before.cycle-at.ensures,
-      c.before.before.if3.false,
-      ne_eqb _ _ c.before.before.before.if2.false,
-      ne_eqb _ _ c.before.before.before.before.if1.false,
+      ← c.from_third.ensures,
+      ← c.before.cycle_at.ensures,
+      c.before.before.if-s-c.false,
+      ne_eqb _ _ c.before.before.before.if-s-eq2.false,
+      ne_eqb _ _ c.before.before.before.before.if-s-eq1.false,
     )
 
 pub later_spec : {M : Type 1} → statement M
@@ -36,16 +36,16 @@ later_spec =
     (tie.spec (search rules)
     (λ c.
     simp (
-      ← c.with-next.ensures,
-      eq-eqb _ _ c.before.if1.true,
+      ← c.with_next.ensures,
+      eq-eqb _ _ c.before.if-s-eq1.true,
     ))
-    (λ c κs. c.before.before.before.before.requires) (search rules)
+    (λ c κs. c.requires) (search rules)
     (λ c.
     simp (
       ← c.second.ensures,
       ← c.before.code_at.ensures,
-      eq-eqb _ _ c.before.before.if2.true,
-      ne_eqb _ _ c.before.before.before.if1.false,
+      eq-eqb _ _ c.before.before.if-s-eq2.true,
+      ne_eqb _ _ c.before.before.before.if-s-eq1.false,
     ))
-    (λ c κs. c.before.before.before.before.before.requires) (search rules) fetches
-    (λ c κs. c.before.before.before.before.before.requires) (search rules) goes_on)
+    (λ c κs. c.requires) (search rules) fetches
+    (λ c κs. c.requires) (search rules) goes_on)

@@ -9,10 +9,10 @@ pub look_spec : {M : Type 1} → statement M
 unfolding look_of
 look_spec =
     tie.close
-    (tie.spec (search rules) (λ c κs. c.before.before.requires) (search rules)
+    (tie.spec (search rules) (λ c κs. c.requires) (search rules)
     (λ c.
     simp (
       ← c.look_at.ensures,
       ← c.before.shown.ensures,
-      ← c.before.before.place_of.ensures,
+      ← c.before.before.place_of-p.ensures,
     )))

@@ -13,9 +13,9 @@ look_at_spec =
     (λ c.
     simp (
       ← c.address.ensures,
-      ← c.before.first-pc.ensures,
-      c.before.before.if1.true,
+      ← c.before.first_pc-pc.ensures,
+      c.before.before.if-stands.true,
       ← c.before.before.before.stands.ensures,
-      ← c.before.before.before.before.kind.ensures,
+      ← c.before.before.before.before.kind-kind.ensures,
     ))
-    (λ c. simp (c.if1.false, ← c.before.stands.ensures, ← c.before.before.kind.ensures)))
+    (λ c. simp (c.if-stands.false, ← c.before.stands.ensures, ← c.before.before.kind-kind.ensures)))

@@ -9,34 +9,34 @@ pub moved_spec : {M : Type 1} → statement M
 unfolding moved_of
 moved_spec =
     tie.close
-    (tie.spec (search rules) (search rules) (search rules) (λ c κs. c.before.before.before.before.before.requires) (search rules) (search rules) (search rules)
-    (λ c κs. c.before.before.before.before.before.requires) (search rules) (search rules) (search rules)
+    (tie.spec (search rules) (search rules) (search rules) (λ c κs. c.requires) (search rules) (search rules) (search rules)
+    (λ c κs. c.requires) (search rules) (search rules) (search rules)
     (search rules)
     (λ c.
     simp (
-      ← c.with-next.ensures,
-      c.before.enum_told.given.1,
+      ← c.with_next.ensures,
+      c.before.in-Fetch.is,
     ))
     (λ c.
     simp (
       ← c.later.ensures,
-      c.before.before.next.given.1,
+      c.in-Later.is,
     ))
     (λ c.
     simp (
       ← c.wait.ensures,
-      c.before.before.next2.given.1,
+      c.in-Wait.is,
     ))
     (λ c.
     simp (
       ← c.hold.ensures,
-      ← c.before.cycle-at.ensures,
-      c.before.before.before.next3.given.1,
+      ← c.before.cycle_at-y.ensures,
+      c.in-Hold.is,
     ))
     (λ c.
     simp (
       ← c.halted.ensures,
-      c.before.enum-told2.given.1,
+      c.before.in-Halt.is,
     ))
     (λ c.
-    simp c.enum-told3.given.1))
+    simp c.in-Stop.is))

@@ -10,5 +10,5 @@ unfolding request_of
 request_spec =
     tie.close
     (tie.spec (search rules)
-    (λ c. simp (← c.asked.ensures, eq-eqb _ _ c.before.if1.true))
-    (λ c. simp (ne_eqb _ _ c.if1.false)))
+    (λ c. simp (← c.asked.ensures, eq-eqb _ _ c.before.if-y-eq3.true))
+    (λ c. simp (ne_eqb _ _ c.if-y-eq3.false)))

@@ -13,7 +13,7 @@ row_spec =
     (λ c.
     simp (
       ← c.levels.ensures,
-      ← c.before.only2.ensures,
+      ← c.before.only-2.ensures,
       ← c.before.before.status.ensures,
       ← c.before.before.before.before.only.ensures,
     )))

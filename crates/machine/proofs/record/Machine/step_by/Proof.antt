@@ -10,4 +10,4 @@ unfolding step_of
 step_by_spec =
     tie.close
     (tie.spec (λ c κs. c.requires) (search rules) (search rules)
-    (λ c. simp (← c.with-clock.ensures, ← c.before.ticked.ensures, ← c.before.before.moved.ensures)))
+    (λ c. simp (← c.with_clock.ensures, ← c.before.ticked.ensures, ← c.before.before.moved.ensures)))

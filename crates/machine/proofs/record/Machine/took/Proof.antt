@@ -6,9 +6,9 @@ use Rattle.std.proofs.Common.{rules}
 use Rattle.machine.proofs.record.Machine.took.Statement.{statement}
 use Rattle.machine.proofs.record.Machine.took.Tie as tie
 
-returns-2 : tie.Need-returns-2
+returns-2 : tie.Need-returns-else-reads
 unfolding took_of with_kept
-returns-2 c = simp (c.if1.false, ← c.before.reads.ensures)
+returns-2 c = simp (c.if-reads.false, ← c.before.reads.ensures)
 
 pub took_spec : {M : Type 1} → statement M
 unfolding took_of
@@ -17,9 +17,9 @@ took_spec =
     (tie.spec (search rules) (search rules) (search rules)
     (λ c.
     simp (
-      ← c.with-kept.ensures,
+      ← c.with_kept.ensures,
       ← c.before.keep.ensures,
-      c.before.before.if1.true,
+      c.before.before.if-reads.true,
       ← c.before.before.before.reads.ensures,
     ))
     returns-2)

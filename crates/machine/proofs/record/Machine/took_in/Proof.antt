@@ -10,5 +10,5 @@ unfolding took_of
 took_in_spec =
     tie.close
     (tie.spec (search rules)
-    (λ c. simp (← c.took.ensures, eq-eqb _ _ c.before.if1.true))
-    (λ c. simp (ne_eqb _ _ c.if1.false)))
+    (λ c. simp (← c.took.ensures, eq-eqb _ _ c.before.if-s-eq3.true))
+    (λ c. simp (ne_eqb _ _ c.if-s-eq3.false)))

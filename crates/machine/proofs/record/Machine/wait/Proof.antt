@@ -10,5 +10,5 @@ unfolding wait_of
 wait_spec =
     tie.close
     (tie.spec (search rules) (search rules)
-    (λ c. simp (← c.with-next.ensures, c.before.if1.true))
-    (λ c. simp (← c.with-next2.ensures, c.before.if1.false)))
+    (λ c. simp (← c.with_next.ensures, c.before.if-counts-lines.true))
+    (λ c. simp (← c.with_next-else-counts-lines.ensures, c.before.if-counts-lines.false)))
