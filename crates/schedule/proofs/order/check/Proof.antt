@@ -12,19 +12,19 @@ check_spec =
     (tie.spec (search rules) (search rules)
     (λ c.
     simp (
-      c.if3.true,
+      c.if-ordered.true,
       ← c.before.ordered.ensures,
-      c.before.before.if2.true,
+      c.before.before.if-all_listed.true,
       ← c.before.before.before.all_listed.ensures,
-      c.before.before.before.before.if1.true,
+      c.before.before.before.before.if-n.true,
     ))
     (λ c.
     simp (
-      c.if3.false,
+      c.if-ordered.false,
       ← c.before.ordered.ensures,
-      c.before.before.if2.true,
+      c.before.before.if-all_listed.true,
       ← c.before.before.before.all_listed.ensures,
-      c.before.before.before.before.if1.true,
+      c.before.before.before.before.if-n.true,
     ))
-    (λ c. simp (c.if2.false, ← c.before.all_listed.ensures, c.before.before.if1.true))
-    (λ c. simp c.if1.false))
+    (λ c. simp (c.if-all_listed.false, ← c.before.all_listed.ensures, c.before.before.if-n.true))
+    (λ c. simp c.if-n.false))

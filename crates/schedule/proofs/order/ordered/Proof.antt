@@ -14,4 +14,4 @@ ordered_spec =
     tie.close
     (tie.spec (search rules) (search rules)
     (λ c. sym (all_end (follows_of _) _ 0 (omega arith)))
-    (λ c. c.all-follow.ensures))
+    (λ c. c.all_follow.ensures))

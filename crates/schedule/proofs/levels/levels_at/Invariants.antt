@@ -1,0 +1,17 @@
+-- `schedule::levels::levels_at` meets its contract. The loop has
+-- done the events behind it; the measure is how many lie ahead.
+-- Assumes nothing.
+use Prim.Native.Nat.{ℕ, ◌+◌, ◌-◌, ◌≤◌, ◌<◌}
+use mathlib.Core.Path.{◌≡◌, sym, ap, ◌∙◌}
+use native.Mathlib.Omega.{arith}
+use borrow.Author.Count.{below_more}
+use Rattle.schedule.specs.Events.{state_number_of}
+use Rattle.schedule.specs.Levels.{levels_at, once_of}
+use Rattle.schedule.proofs.Cursor.{levels-before, levels-rest, levels-next}
+use Rattle.schedule.proofs.levels.levels_at.Given as goal
+
+abbrev pub invariant-loop-i : goal.invariant-loop-i
+invariant-loop-i l = (l.i ≤ l.n) × (l.cur ≡ levels_at l.s l.i l.t l.initial.cur) × ((j : ℕ) → j < l.i → state_number_of l.s j ≤ l.t)
+
+abbrev pub decreases-loop-i : goal.decreases-loop-i
+decreases-loop-i l = l.n - l.i
