@@ -9,7 +9,6 @@ use borrow.Author.Tests.{eq-eqb, ne_eqb, eqb-true, leb-true}
 use lib.Dec.{T, eqb, leb}
 use lib.ListN.{length, get_or, take, drop}
 use Rattle.laws.specs.Choice.{pick}
-use Rattle.intel_hex.specs.declared.answer.Refusal.{Refusal}
 use Rattle.intel_hex.specs.declared.answer.Refusal.TheVariants.{Malformed, OtherType, PastEnd}
 use Rattle.intel_hex.specs.declared.answer.Reading.{Reading}
 use Rattle.intel_hex.specs.declared.answer.Reading.TheVariants as reading

@@ -13,7 +13,7 @@ use Rattle.intel_hex.specs.declared.record.Line.{Line}
 use Rattle.intel_hex.specs.declared.record.Line.TheVariants.{Data, End, Faulty}
 use Rattle.intel_hex.specs.Lines.{bare_of}
 use Rattle.intel_hex.specs.Record.{record_type, line_formed, line_is}
-use Rattle.intel_hex.specs.Read.{judged_by, judged_from, landed_of, landed_by, landed_from}
+use Rattle.intel_hex.specs.Read.{judged_by, judged_from, landed_of, landed_from}
 use Rattle.intel_hex.proofs.Formed.{no_read, good_line}
 
 -- the answer at the first of some lines, by what it is, and where there is none

@@ -16,9 +16,9 @@ use Rattle.text.specs.Bytes.{Bytes}
 
 -- a digit
 module _ (d : ℕ) (h : d < 16) where
-  pub digit_value : digit_value (digit_of d) ≡ d
+  pub digit_value_lem : digit_value (digit_of d) ≡ d
   unfolding digit_value digit_of
-  digit_value = eqb→eq _ _ (below (λ i. eqb (digit_value (digit_of i)) i) 16 tt d h)
+  digit_value_lem = eqb→eq _ _ (below (λ i. eqb (digit_value (digit_of i)) i) 16 tt d h)
 
   pub digit-hex : is_hex (digit_of d) ≡ true
   unfolding is_hex digit_of
@@ -31,7 +31,7 @@ module _ (d : ℕ) (h : d < 16) where
 -- a byte
 pub pair_back : (b : ℕ) → b < 256 → two_digits (digit_of (b / 16)) (digit_of (b % 16)) ≡ b
 unfolding two_digits
-pair_back b h = rw (digit_value (b / 16) (omega arith), digit_value (b % 16) (omega arith)) (omega arith)
+pair_back b h = rw (digit_value_lem (b / 16) (omega arith), digit_value_lem (b % 16) (omega arith)) (omega arith)
 
 -- bytes
 pub digits_back : (s : List ℕ) → Bytes s → bytes_in (digits_of s) ≡ s

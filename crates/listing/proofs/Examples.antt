@@ -1,8 +1,7 @@
 -- Lines that document 01 prints for 3E 05 76. Each side is computed.
 -- Assumes nothing.
-use Prim.Native.Nat.{ℕ}
 use mathlib.Core.Path.{◌≡◌, refl}
-use mathlib.Core.List.{List, [], ◌∷◌}
+use mathlib.Core.List.{[], ◌∷◌}
 use Rattle.text.specs.Numbers.{digit_of, byte_of, decimal_in, decimal_of}
 use Rattle.listing.specs.Lines.{name_of, state_line_of, last_line_of}
 

@@ -3,13 +3,11 @@
 use Prim.Native.Nat.{ℕ, zero, suc, ◌+◌, ◌-◌, ◌*◌, ◌/◌, ◌≤◌, ◌<◌, min}
 use mathlib.Core.Path.{◌≡◌, refl}
 use mathlib.Core.List.{List}
-use mathlib.Core.Logic.{⊎_elim}
 use native.Mathlib.Omega.{arith}
-use native.Mathlib.Nat.{min-le_right, min-le_left}
+use native.Mathlib.Nat.{min-le_right}
 use borrow.Author.Tests.{eq-eqb, ne_eqb}
 use lib.ListN.{length, get_or}
 use lib.Dec.{eqb}
-use Rattle.laws.specs.Choice.{pick}
 use Rattle.laws.proofs.Tests.{pick_both}
 use Rattle.listing.specs.Listing.{halt_from, before_halt_of}
 

@@ -1,4 +1,4 @@
--- Lists of bytes. Cited by the theorems of `hex` and by the laws of `listing`.
+-- Lists of bytes. Cited by the theorems of `intel_hex` and by the laws of `listing`.
 use Rattle.std.specs.Prelude.{ℕ, ◌<◌, List, get_or}
 
 -- what is in l are bytes, as in every slice of bytes

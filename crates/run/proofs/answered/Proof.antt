@@ -10,5 +10,5 @@ unfolding answered_of
 answered_spec =
     tie.close
     (tie.spec (search rules)
-    (λ c. simp (c.if1.true, ← c.before.stopped.ensures))
-    (λ c. simp (c.if1.false, ← c.before.stopped.ensures)))
+    (λ c. simp (c.if-stopped.true, ← c.before.stopped.ensures))
+    (λ c. simp (c.if-stopped.false, ← c.before.stopped.ensures)))

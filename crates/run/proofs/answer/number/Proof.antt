@@ -10,6 +10,6 @@ unfolding number_of
 number_spec =
     tie.close
     (tie.spec (search rules) (search rules) (search rules) (search rules)
-    (λ c. simp c.enum_told.given.1)
-    (λ c. simp c.enum-told2.given.1)
-    (λ c. simp (← c.refusal-number.ensures, c.before.before.a.given.1)))
+    (λ c. simp c.in-Done.is)
+    (λ c. simp c.in-Stopped.is)
+    (λ c. simp (← c.refusal_number.ensures, c.before.before.a.given.1)))

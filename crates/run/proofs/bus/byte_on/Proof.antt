@@ -11,7 +11,7 @@ byte_on_spec =
     tie.close
     (tie.spec (search rules) (search rules) (search rules) (search rules) (search rules) (search rules) (search rules)
     (search rules) (search rules) (search rules)
-    (λ c. simp c.enum_told.given.1)
+    (λ c. simp c.in-Nothing.is)
     (λ c. simp c.before.before.q.given.1)
     (λ c. simp c.before.q2.given.1)
     (λ c. simp c.before.before.q3.given.1)

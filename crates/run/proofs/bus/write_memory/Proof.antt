@@ -10,8 +10,8 @@ unfolding memory_after
 write_memory_spec =
     tie.close
     (tie.spec (search rules)
-    (λ c. simp c.enum_told.given.1) (search rules)
-    (λ c. simp c.enum-told2.given.1) (search rules) (search rules) (search rules) (search rules)
+    (λ c. simp c.in-Nothing.is) (search rules)
+    (λ c. simp c.in-Read.is) (search rules) (search rules) (search rules) (search rules)
     (λ c. simp c.before.q.given.1) (search rules)
     (λ c. simp c.enum-told3.given.1) (search rules)
     (λ c. simp c.enum-told4.given.1) (search rules)

@@ -10,9 +10,9 @@ unfolding outputs_after
 write_output_spec =
     tie.close
     (tie.spec (search rules)
-    (λ c. simp c.enum_told.given.1) (search rules)
-    (λ c. simp c.enum-told2.given.1) (search rules)
-    (λ c. simp c.enum-told3.given.1) (search rules)
-    (λ c. simp c.enum-told4.given.1) (search rules) (search rules) (search rules) (search rules)
+    (λ c. simp c.in-Nothing.is) (search rules)
+    (λ c. simp c.in-Read.is) (search rules)
+    (λ c. simp c.in-Write.is) (search rules)
+    (λ c. simp c.in-Input.is) (search rules) (search rules) (search rules) (search rules)
     (λ c. simp c.before.q.given.1) (search rules)
     (λ c. simp c.enum-told5.given.1))

@@ -11,7 +11,7 @@ schedule_verdict_spec =
     tie.close
     (tie.spec (search rules) (search rules) (search rules) (search rules) (search rules) (search rules) (search rules)
     (search rules)
-    (λ c. simp (c.enum_told.given.1, ← c.before.before.check.ensures))
+    (λ c. simp (c.in-Good.is, ← c.before.before.check.ensures))
     (λ c. simp (c.no.ensures, c.before.enum-told2.given.1, ← c.before.before.before.check.ensures))
     (λ c.
     simp (

@@ -13,39 +13,39 @@ unfolding states_verdict
 states_verdict_spec =
     tie.close
     (tie.spec (search rules)
-    (λ c. simp (c.no.ensures, lt-leb _ _ c.before.if1.true))
+    (λ c. simp (c.no.ensures, lt-leb _ _ c.before.if-n-gt8192.true))
     (search rules) (search rules)
     (λ c.
     simp (
-      c.no2.ensures,
-      lt-leb _ _ c.before.if2.true,
-      le-leb _ _ c.before.before.if1.false,
+      c.no-then-l-n.ensures,
+      lt-leb _ _ c.before.if-l-n.true,
+      le-leb _ _ c.before.before.if-n-gt8192.false,
     ))
     (search rules) (search rules) (search rules) (search rules) (search rules)
     (λ c.
     simp (
-      c.no3.ensures,
+      c.no-then-m-n.ensures,
       lt-leb (c.args.m.clock + c.args.n)
-          4294967295 (omega (arith, c.before.if4.true)),
-      c.before.before.before.if3.true,
+          4294967295 (omega (arith, c.before.if-m-n.true)),
+      c.before.before.before.if-well.true,
       ← c.before.before.before.before.well.ensures,
-      le-leb _ _ c.before.before.before.before.before.if2.false,
-      le-leb _ _ c.before.before.before.before.before.before.if1.false,
+      le-leb _ _ c.before.before.before.before.before.if-l-n.false,
+      le-leb _ _ c.before.before.before.before.before.before.if-n-gt8192.false,
     ))
     (λ c.
     simp (
       le-leb (c.args.m.clock + c.args.n)
-          4294967295 (omega (arith, c.if4.false)),
-      c.before.before.if3.true,
+          4294967295 (omega (arith, c.if-m-n.false)),
+      c.before.before.if-well.true,
       ← c.before.before.before.well.ensures,
-      le-leb _ _ c.before.before.before.before.if2.false,
-      le-leb _ _ c.before.before.before.before.before.if1.false,
+      le-leb _ _ c.before.before.before.before.if-l-n.false,
+      le-leb _ _ c.before.before.before.before.before.if-n-gt8192.false,
     ))
     (λ c.
     simp (
-      c.no4.ensures,
-      c.before.if3.false,
+      c.no-else-well.ensures,
+      c.before.if-well.false,
       ← c.before.before.well.ensures,
-      le-leb _ _ c.before.before.before.if2.false,
-      le-leb _ _ c.before.before.before.before.if1.false,
+      le-leb _ _ c.before.before.before.if-l-n.false,
+      le-leb _ _ c.before.before.before.before.if-n-gt8192.false,
     )))
