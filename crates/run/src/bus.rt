@@ -5,6 +5,7 @@ ghost use Rattle.run.specs.State.{byte_on, memory_after, outputs_after};
 use machine::request::Request;
 
 // The byte on the bus: read, written, or 0 where there is none.
+#[tactic(auto, unfolding(crate::specs::State::byte_on))]
 pub(crate) fn byte_on(q: Request, memory: &[u8], inputs: &[u8]) -> u8
     requires { (length memory.now ≡ 65536) × (length inputs.now ≡ 256) }
     ensures { result ≡ byte_on q memory.now inputs.now }
@@ -23,6 +24,7 @@ pub(crate) fn byte_on(q: Request, memory: &[u8], inputs: &[u8]) -> u8
 }
 
 // A write goes to memory.
+#[tactic(auto, unfolding(crate::specs::State::memory_after))]
 pub(crate) fn write_memory(q: Request, memory: &mut [u8])
     requires { length memory.old ≡ 65536 }
     ensures { memory.new ≡ memory_after q memory.old }
@@ -44,6 +46,7 @@ pub(crate) fn write_memory(q: Request, memory: &mut [u8])
 }
 
 // An output goes to its port.
+#[tactic(auto, unfolding(crate::specs::State::outputs_after))]
 pub(crate) fn write_output(q: Request, outputs: &mut [u8])
     requires { length outputs.old ≡ 256 }
     ensures { outputs.new ≡ outputs_after q outputs.old }

@@ -14,6 +14,7 @@ fn no(reason: Refusal) -> Verdict
 }
 
 // The tests 3, 4 and 5, of the schedule.
+#[tactic(auto, unfolding(crate::specs::Check::schedule_verdict))]
 fn schedule_verdict(s: &[u8]) -> Verdict
     ensures { result ≡ schedule_verdict s.now }
 {

@@ -11,32 +11,32 @@ unfolding check_of
 check_spec =
     tie.close
     (tie.spec (search rules)
-    (λ c. simp (c.no.ensures, ne_eqb _ _ c.before.if1.true)) (search rules)
-    (λ c. simp (c.no2.ensures, ne_eqb _ _ c.before.if2.true, eq-eqb _ _ c.before.before.if1.false))
+    (λ c. simp (c.no.ensures, ne_eqb _ _ c.before.if-x-ne65536.true)) (search rules)
+    (λ c. simp (c.no-then-i-ne256.ensures, ne_eqb _ _ c.before.if-i-ne256.true, eq-eqb _ _ c.before.before.if-x-ne65536.false))
     (search rules)
     (λ c.
     simp (
-      c.no3.ensures,
-      ne_eqb _ _ c.before.if3.true,
-      eq-eqb _ _ c.before.before.if2.false,
-      eq-eqb _ _ c.before.before.before.if1.false,
+      c.no-then-o-ne256.ensures,
+      ne_eqb _ _ c.before.if-o-ne256.true,
+      eq-eqb _ _ c.before.before.if-i-ne256.false,
+      eq-eqb _ _ c.before.before.before.if-x-ne65536.false,
     ))
     (search rules) (search rules) (search rules) (search rules) (search rules)
     (λ c.
     simp (
-      ← c.states-verdict.ensures,
-      c.before.enum_told.given.1,
-      ← c.before.before.before.schedule-verdict.ensures,
-      eq-eqb _ _ c.before.before.before.before.if3.false,
-      eq-eqb _ _ c.before.before.before.before.before.if2.false,
-      eq-eqb _ _ c.before.before.before.before.before.before.if1.false,
+      ← c.states_verdict.ensures,
+      c.in-Good.is,
+      ← c.schedule_verdict-verdict.ensures,
+      eq-eqb _ _ c.if-o-ne256.false,
+      eq-eqb _ _ c.if-i-ne256.false,
+      eq-eqb _ _ c.if-x-ne65536.false,
     ))
     (λ c.
     simp (
-      c.no4.ensures,
-      c.before.before.verdict.given.1,
-      ← c.before.before.before.before.schedule-verdict.ensures,
-      eq-eqb _ _ c.before.before.before.before.before.if3.false,
-      eq-eqb _ _ c.before.before.before.before.before.before.if2.false,
-      eq-eqb _ _ c.before.before.before.before.before.before.before.if1.false,
+      c.no-in-Refused.ensures,
+      c.in-Refused.is,
+      ← c.schedule_verdict-verdict.ensures,
+      eq-eqb _ _ c.if-o-ne256.false,
+      eq-eqb _ _ c.if-i-ne256.false,
+      eq-eqb _ _ c.if-x-ne65536.false,
     )))
