@@ -56,7 +56,7 @@ fn flat(m: Machine) -> [u8; 64]
     let ack = kept.ack;
     let first = header_with(next_number(next), m);
     let mut h = [0; 64];
-    bytes::copy(&first, &mut h);
+    h[..24].copy_from_slice(&first);
     h[24] = cycle_byte(next);
     h[25] = state_byte(next);
     h[26] = kept.opcode;
@@ -75,7 +75,7 @@ pub(crate) fn record_with(z: &mut [u8], m: Machine)
 {
     if z.len() == 64 {
         let h = flat(m);
-        bytes::copy(&h, z);
+        z.copy_from_slice(&h);
         return;
     }
 }

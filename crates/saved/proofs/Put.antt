@@ -15,20 +15,11 @@ use Rattle.saved.specs.Put.{put_at}
 pub copied : (s z : List ℕ) → length z ≤ length s → take (length s) s ++ drop (length s) z ≡ s
 copied s z h = rw (take-length, drop_of_length-le z, append-nil)
 
-less : (a n : ℕ) → a + n - a ≡ n
-less a n = omega arith
-
--- s, copied over the part of z that begins at a and is as long
-filled : (z s : List ℕ) (a : ℕ) → take (length s) s ++ drop (length s) (mid_of a (a + length s - a) z) ≡ s
-filled z s a =
-    ap (λ (k : ℕ). take (length s) s ++ drop (length s) (take k (drop a z))) (less a (length s))
-    ∙ rw (take-length, slice_empty, append-nil)
-
-pub put_part : (z s y : List ℕ) (a : ℕ) → y ≡ take (length s) s ++ drop (length s) (mid_of a (a + length s - a) z)
-    → put_mid a (a + length s - a) z y ≡ put_at z a s
+-- s over the part of z that begins at a and is as long
+pub put_part : (z s y : List ℕ) (a : ℕ) → y ≡ s → put_mid a (a + length s - a) z y ≡ put_at z a s
 unfolding put_at
 put_part z s y a e =
-    ap (λ (l : List ℕ). put_mid a (a + length s - a) z l) (e ∙ filled z s a)
+    ap (λ (l : List ℕ). put_mid a (a + length s - a) z l) e
     ∙ ap (λ (l : List ℕ). take a z ++ (s ++ l)) (Post-is a (a + length s) z (omega arith))
 
 -- s goes behind p, over what stands there
@@ -58,14 +49,6 @@ written m o x z h z₁ z₂ z₃ f g k e p q r =
     ∙ ap (λ (l : List ℕ). put_at l 280 x) (q ∙ ap (λ (l : List ℕ). put_at l 24 o) (p ∙ ap (put_at z 0) e))
     ∙ put_three (header_of m) o x z refl f g k
 
--- the ports and memory of a form s, copied over lists of their sizes
-pub copied_ports : (s z : List ℕ) → length s ≡ 65816 → length z ≡ 256
-    → take (length (ports_in s)) (ports_in s) ++ drop (length (ports_in s)) z ≡ ports_in s
-copied_ports s z e f = copied (ports_in s) z (simp (length-take, length-drop) (omega arith))
-
-pub copied_memory : (s z : List ℕ) → length s ≡ 65816 → length z ≡ 65536
-    → take (length (take 65536 (drop 280 s))) (take 65536 (drop 280 s)) ++ drop (length (take 65536 (drop 280 s))) z
-    ≡ memory_in s
-copied_memory s z e f =
-    copied (take 65536 (drop 280 s)) z (simp (length-take, length-drop) (omega arith))
-    ∙ take_all 65536 (drop 280 s) (simp length-drop (omega arith))
+-- memory is the rest of a form s
+pub memory_part : (s : List ℕ) → length s ≡ 65816 → take 65536 (drop 280 s) ≡ memory_in s
+memory_part s e = take_all 65536 (drop 280 s) (simp length-drop (omega arith))

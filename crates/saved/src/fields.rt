@@ -82,6 +82,7 @@ pub(crate) fn in_range(s: &[u8]) -> bool
 }
 
 // What comes next in a mode.
+#[tactic(auto, unfolding(crate::specs::Fields::position_of))]
 fn position(mode: u8) -> Position
     ensures { result ≡ position_of mode }
 {

@@ -13,7 +13,7 @@ fn put(out: &mut [u8], a: usize, s: &[u8])
     ensures { out.new ≡ put_at out.old a s.now }
 {
     let e = a + s.len();
-    bytes::copy(s, &mut out[a..e]);
+    out[a..e].copy_from_slice(s);
 }
 
 // The header, the output ports, memory.
@@ -32,6 +32,6 @@ pub(crate) fn read(s: &[u8], memory: &mut [u8], outputs: &mut [u8])
     requires { (length s.now ≡ 65816) × (length memory.old ≡ 65536) × (length outputs.old ≡ 256) }
     ensures { (memory.new ≡ memory_in s.now) × (outputs.new ≡ ports_in s.now) }
 {
-    bytes::copy(&s[24..280], outputs);
-    bytes::copy(&s[280..65816], memory);
+    outputs.copy_from_slice(&s[24..280]);
+    memory.copy_from_slice(&s[280..65816]);
 }

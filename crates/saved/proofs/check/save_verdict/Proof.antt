@@ -1,7 +1,7 @@
 -- `saved::check::save_verdict` meets its contract.
 -- Assumes nothing.
 use Rattle.saved.specs.Check.{save_verdict}
-use borrow.Author.Tests.{eq-eqb, ne_eqb, not-true, not-false}
+use borrow.Author.Tests.{eq-eqb, ne_eqb}
 use borrow.Author.Rules.{rules}
 use Rattle.saved.proofs.check.save_verdict.Statement.{statement}
 use Rattle.saved.proofs.check.save_verdict.Tie as tie
@@ -10,47 +10,47 @@ pub save_verdict_spec : {M : Type 1} → statement M
 unfolding save_verdict
 save_verdict_spec =
     tie.close
-    (tie.spec (search rules) (λ c. simp (c.no.ensures, ne_eqb _ _ c.before.if1.true)) (search rules)
-    (λ c. simp (c.no2.ensures, ne_eqb _ _ c.before.if2.true, eq-eqb _ _ c.before.before.if1.false))
+    (tie.spec (search rules) (λ c. simp (c.no.ensures, ne_eqb _ _ c.before.if-x-ne65536.true)) (search rules)
+    (λ c. simp (c.no-then-o-ne256.ensures, ne_eqb _ _ c.before.if-o-ne256.true, eq-eqb _ _ c.before.before.if-x-ne65536.false))
     (search rules) (search rules)
     (λ c.
     simp (
-      c.no3.ensures,
-      not-true c.before.before.well.result c.before.if3.true,
-      ← c.before.before.well.ensures,
-      eq-eqb _ _ c.before.before.before.if2.false,
-      eq-eqb _ _ c.before.before.before.before.if1.false,
+      c.no-then-not-well.ensures,
+      c.if-not-well.true,
+      ← c.well.ensures,
+      eq-eqb _ _ c.if-o-ne256.false,
+      eq-eqb _ _ c.if-x-ne65536.false,
     ))
     (search rules) (search rules)
     (λ c.
     simp (
-      c.no4.ensures,
-      not-true c.before.before.between.result c.before.if4.true,
-      ← c.before.before.between.ensures,
-      not-false c.before.before.before.before.well.result c.before.before.before.if3.false,
-      ← c.before.before.before.before.well.ensures,
-      eq-eqb _ _ c.before.before.before.before.before.if2.false,
-      eq-eqb _ _ c.before.before.before.before.before.before.if1.false,
+      c.no-then-not-between.ensures,
+      c.if-not-between.true,
+      ← c.between.ensures,
+      c.if-not-well.false,
+      ← c.well.ensures,
+      eq-eqb _ _ c.if-o-ne256.false,
+      eq-eqb _ _ c.if-x-ne65536.false,
     ))
     (search rules)
     (λ c.
     simp (
-      c.no5.ensures,
-      ne_eqb _ _ c.before.if5.true,
-      not-false c.before.before.before.between.result c.before.before.if4.false,
-      ← c.before.before.before.between.ensures,
-      not-false c.before.before.before.before.before.well.result c.before.before.before.before.if3.false,
-      ← c.before.before.before.before.before.well.ensures,
-      eq-eqb _ _ c.before.before.before.before.before.before.if2.false,
-      eq-eqb _ _ c.before.before.before.before.before.before.before.if1.false,
+      c.no-then-l-ne65816.ensures,
+      ne_eqb _ _ c.if-l-ne65816.true,
+      c.if-not-between.false,
+      ← c.between.ensures,
+      c.if-not-well.false,
+      ← c.well.ensures,
+      eq-eqb _ _ c.if-o-ne256.false,
+      eq-eqb _ _ c.if-x-ne65536.false,
     ))
     (λ c.
     simp (
-      eq-eqb _ _ c.if5.false,
-      not-false c.before.before.between.result c.before.if4.false,
-      ← c.before.before.between.ensures,
-      not-false c.before.before.before.before.well.result c.before.before.before.if3.false,
-      ← c.before.before.before.before.well.ensures,
-      eq-eqb _ _ c.before.before.before.before.before.if2.false,
-      eq-eqb _ _ c.before.before.before.before.before.before.if1.false,
+      eq-eqb _ _ c.if-l-ne65816.false,
+      c.if-not-between.false,
+      ← c.between.ensures,
+      c.if-not-well.false,
+      ← c.well.ensures,
+      eq-eqb _ _ c.if-o-ne256.false,
+      eq-eqb _ _ c.if-x-ne65536.false,
     )))

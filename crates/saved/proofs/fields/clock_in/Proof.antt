@@ -13,8 +13,8 @@ clock_in_spec =
     (λ c.
     simp (
       ← c.long.ensures,
-      ← c.before.byte-at4.ensures,
-      ← c.before.before.byte-at3.ensures,
-      ← c.before.before.before.byte-at2.ensures,
+      ← c.before.byte_at-4.ensures,
+      ← c.before.before.byte_at-3.ensures,
+      ← c.before.before.before.byte_at-2.ensures,
       ← c.before.before.before.before.byte_at.ensures,
     )))

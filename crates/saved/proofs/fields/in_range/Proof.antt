@@ -13,7 +13,7 @@ in_range_spec =
     (search rules) (search rules)
     (λ c.
     simp (
-      ← c.before.before.before.levels-listed.ensures,
-      ← c.before.before.before.before.lines-in.ensures,
+      ← c.before.before.before.levels_listed.ensures,
+      ← c.before.before.before.before.lines_in.ensures,
       ← c.before.before.before.before.before.before.before.fixed.ensures,
     )))

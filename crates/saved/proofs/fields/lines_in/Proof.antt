@@ -12,7 +12,7 @@ lines_in_spec =
     (tie.spec (search rules) (search rules) (search rules)
     (λ c.
     simp (
-      ← c.byte-at3.ensures,
-      ← c.before.byte-at2.ensures,
+      ← c.byte_at-3.ensures,
+      ← c.before.byte_at-2.ensures,
       ← c.before.before.byte_at.ensures,
     )))

@@ -10,8 +10,8 @@ long_spec =
     (tie.spec (search rules) (search rules) (search rules) (search rules) (search rules) (search rules) (search rules) (search rules) (search rules) (search rules)
     (λ c.
     simp (
-      ← c.wider4.ensures.0,
-      ← c.before.wider3.ensures.0,
-      ← c.before.before.wider2.ensures.0,
+      ← c.wider-4.ensures.0,
+      ← c.before.wider-3.ensures.0,
+      ← c.before.before.wider-2.ensures.0,
       ← c.before.before.before.wider.ensures.0,
     )))

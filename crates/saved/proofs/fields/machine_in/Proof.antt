@@ -13,8 +13,8 @@ machine_in_spec =
     (λ c.
     simp (
       ← c.position.ensures,
-      ← c.before.before.clock-in.ensures,
-      ← c.before.before.before.lines-in.ensures,
+      ← c.before.before.clock_in.ensures,
+      ← c.before.before.before.lines_in.ensures,
       ← c.before.before.before.before.kept_for.ensures,
-      ← c.before.before.before.before.before.registers-in.ensures,
+      ← c.before.before.before.before.before.registers_in.ensures,
     )))

@@ -16,14 +16,14 @@ registers_in_spec =
     (λ c i.
     record {
       a = c.before.before.before.before.before.before.before.before.before.before.before.before.before.before.byte_at.ensures i;
-      f = c.before.before.before.before.before.before.before.before.before.before.before.before.before.byte-at2.ensures i;
-      b = c.before.before.before.before.before.before.before.before.before.before.before.before.byte-at3.ensures i;
-      c = c.before.before.before.before.before.before.before.before.before.before.before.byte-at4.ensures i;
-      d = c.before.before.before.before.before.before.before.before.before.before.byte-at5.ensures i;
-      e = c.before.before.before.before.before.before.before.before.before.byte-at6.ensures i;
-      h = c.before.before.before.before.before.before.before.before.byte-at7.ensures i;
-      l = c.before.before.before.before.before.before.before.byte-at8.ensures i;
-      sp = (c.before.before.before.before.word.ensures ∙ (λ j. c.before.before.before.before.before.before.byte-at9.ensures j + 256 * c.before.before.before.before.before.byte-at10.ensures j)) i;
-      pc = (c.before.word2.ensures ∙ (λ j. c.before.before.before.byte-at11.ensures j + 256 * c.before.before.byte-at12.ensures j)) i;
-      inte = eqb (c.byte-at13.ensures i) 1;
+      f = c.before.before.before.before.before.before.before.before.before.before.before.before.before.byte_at-2.ensures i;
+      b = c.before.before.before.before.before.before.before.before.before.before.before.before.byte_at-3.ensures i;
+      c = c.before.before.before.before.before.before.before.before.before.before.before.byte_at-4.ensures i;
+      d = c.before.before.before.before.before.before.before.before.before.before.byte_at-5.ensures i;
+      e = c.before.before.before.before.before.before.before.before.before.byte_at-6.ensures i;
+      h = c.before.before.before.before.before.before.before.before.byte_at-7.ensures i;
+      l = c.before.before.before.before.before.before.before.byte_at-8.ensures i;
+      sp = (c.before.before.before.before.word.ensures ∙ (λ j. c.before.before.before.before.before.before.byte_at-9.ensures j + 256 * c.before.before.before.before.before.byte_at-10.ensures j)) i;
+      pc = (c.before.word-2.ensures ∙ (λ j. c.before.before.before.byte_at-11.ensures j + 256 * c.before.before.byte_at-12.ensures j)) i;
+      inte = eqb (c.byte_at-13.ensures i) 1;
     }))

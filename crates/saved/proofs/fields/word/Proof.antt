@@ -10,6 +10,6 @@ word_spec =
     (tie.spec (search rules) (search rules) (search rules) (search rules)
     (λ c.
     simp (
-      ← c.wide2.ensures.0,
+      ← c.wide-2.ensures.0,
       ← c.before.wide.ensures.0,
     )))

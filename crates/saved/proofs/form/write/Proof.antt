@@ -11,9 +11,9 @@ returns c =
     let first = second.before.before.before.before in
     let made = first.before.before.before in
     let start = made.before.before.before.before in
-    written _ _ _ _ _ _ _ _ start.requires.1 start.requires.0 start.requires.2 made.header.ensures first.put.ensures
-    second.put2.ensures
-    c.before.before.put3.ensures
+    written _ _ _ _ _ _ _ _ start.requires.1 start.requires.0 start.requires.2 made.header-h.ensures first.put.ensures
+    second.put-2.ensures
+    c.before.before.put-3.ensures
 
 pub write_spec : {M : Type 1} → statement M
 write_spec =

@@ -9,6 +9,6 @@ pub fetch_mode_spec : {M : Type 1} → statement M
 unfolding fetch_mode
 fetch_mode_spec =
     tie.close
-    (tie.spec (search rules) (search rules) (search rules) (λ c. simp c.enum_told.given.1)
-    (λ c. simp c.enum-told2.given.1)
-    (λ c. simp c.enum-told3.given.1))
+    (tie.spec (search rules) (search rules) (search rules) (λ c. simp c.in-None.is)
+    (λ c. simp c.in-Running.is)
+    (λ c. simp c.in-Halted.is))

@@ -9,4 +9,4 @@ pub header_spec : {M : Type 1} → statement M
 unfolding header_of
 header_spec =
     tie.close
-    (tie.spec (search rules) (search rules) (λ c. simp (c.header-with.ensures, ← c.before.mode.ensures)))
+    (tie.spec (search rules) (search rules) (λ c. simp (c.header_with.ensures, ← c.before.mode.ensures)))

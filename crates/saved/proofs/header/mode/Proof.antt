@@ -10,9 +10,9 @@ unfolding mode_of
 mode_spec =
     tie.close
     (tie.spec (search rules) (search rules) (search rules) (search rules) (search rules) (search rules) (search rules)
-    (λ c. simp (← c.fetch-mode.ensures, c.before.enum_told.given.1))
-    (λ c. simp c.enum-told2.given.1)
-    (λ c. simp c.enum-told3.given.1)
-    (λ c. simp c.enum-told4.given.1)
-    (λ c. simp c.enum-told5.given.1)
-    (λ c. simp c.enum-told6.given.1))
+    (λ c. simp (← c.fetch_mode.ensures, c.before.in-Fetch.is))
+    (λ c. simp c.in-Later.is)
+    (λ c. simp c.in-Wait.is)
+    (λ c. simp c.in-Hold.is)
+    (λ c. simp c.in-Halt.is)
+    (λ c. simp c.in-Stop.is))
