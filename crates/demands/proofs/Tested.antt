@@ -115,17 +115,22 @@ pub save_sound : (m : Machine) (x o z : List ℕ)
 unfolding save_verdict
 save_sound m x o z =
     let G = SaveGiven m x o z in
-    step G refusal.MemorySize _ (eqb (length x) 65536) _ (bars_not (shows_eqb (length x) 65536))
-    (step G refusal.PortSize _ (eqb (length o) 256) _ (bars_not (shows_eqb (length o) 256))
-    (step G refusal.IllFormed _ (well_of m) _ (well_bars m)
-    (step G refusal.InsideInstruction _ (between_of m) _ (between_bars m)
+    let from_output = refusal.OutputSize ∷ [] in
+    let from_inside = refusal.InsideInstruction ∷ from_output in
+    let from_form = refusal.IllFormed ∷ from_inside in
+    step G refusal.MemorySize (refusal.PortSize ∷ from_form) (eqb (length x) 65536) _ (bars_not (shows_eqb (length x) 65536))
+    (step G refusal.PortSize from_form (eqb (length o) 256) _ (bars_not (shows_eqb (length o) 256))
+    (step G refusal.IllFormed from_inside (well_of m) _ (well_bars m)
+    (step G refusal.InsideInstruction from_output (between_of m) _ (between_bars m)
     (step G refusal.OutputSize [] (eqb (length z) 65816) verdict.Good (bars_not (shows_eqb (length z) 65816)) tt))))
 
 pub load_sound : (s x o : List ℕ) → Sound (LoadGiven s x o) load_tests (load_verdict s (length x) (length o))
 unfolding load_verdict
 load_sound s x o =
     let G = LoadGiven s x o in
-    step G refusal.SavedSize _ (eqb (length s) 65816) _ (bars_not (shows_eqb (length s) 65816))
-    (step G refusal.FieldRange _ (in_range s) _ (range_bars s)
-    (step G refusal.MemorySize _ (eqb (length x) 65536) _ (bars_not (shows_eqb (length x) 65536))
+    let from_ports = refusal.PortSize ∷ [] in
+    let from_memory = refusal.MemorySize ∷ from_ports in
+    step G refusal.SavedSize (refusal.FieldRange ∷ from_memory) (eqb (length s) 65816) _ (bars_not (shows_eqb (length s) 65816))
+    (step G refusal.FieldRange from_memory (in_range s) _ (range_bars s)
+    (step G refusal.MemorySize from_ports (eqb (length x) 65536) _ (bars_not (shows_eqb (length x) 65536))
     (step G refusal.PortSize [] (eqb (length o) 256) verdict.Good (bars_not (shows_eqb (length o) 256)) tt)))
