@@ -9,7 +9,7 @@ returns : tie.Need-returns
 returns c =
     let line = c.before in
     let number = line.before in
-    read_call _ _ _ _ _ _ _ number.before.before.before.read.ensures number.reading-number.ensures line.reading-line.ensures
+    read_call _ _ _ _ _ _ _ number.before.before.before.read-answer.ensures number.reading_number.ensures line.reading_line.ensures
     c.beside.ensures
 
 pub fez_hex_read_spec : {M : Type 1} → statement M

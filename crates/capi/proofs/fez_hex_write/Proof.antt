@@ -9,7 +9,7 @@ returns : tie.Need-returns
 returns c =
     let length = c.before in
     let number = length.before in
-    write_call _ _ _ _ _ _ _ _ _ number.before.before.before.write.ensures number.writing-number.ensures length.writing-length.ensures
+    write_call _ _ _ _ _ _ _ _ _ number.before.before.before.write-answer.ensures number.writing_number.ensures length.writing_length.ensures
     c.beside.ensures
 
 pub fez_hex_write_spec : {M : Type 1} → statement M

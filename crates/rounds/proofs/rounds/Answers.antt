@@ -17,7 +17,7 @@ loop-left-preserved c =
       trace = c.run-answer.auto.trace ∙ inv.trace;
       runs =
           turn _ _ _ _ _ _ _ _ _ _ _ _ _ _ _ c.loop-left-test.true c.run-answer.ensures c.ran-after.ensures
-          c.wrapping_add_u64-done.ensures
+          c.wrapping_add_u64-done.ensures.value
           ∙ inv.runs;
     }
 

@@ -9,5 +9,5 @@ pub acknowledge_byte_spec : {M : Type 1} → statement M
 unfolding acknowledge_byte
 acknowledge_byte_spec =
     tie.close
-    (tie.spec (search rules) (search rules) (search rules) (λ c. simp c.enum_told.given.1)
-    (λ c. simp c.enum-told2.given.1) (λ c. simp c.enum-told3.given.1))
+    (tie.spec (search rules) (search rules) (search rules) (λ c. simp c.in-None.is)
+    (λ c. simp c.in-Running.is) (λ c. simp c.in-Halted.is))

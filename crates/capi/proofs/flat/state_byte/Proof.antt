@@ -10,5 +10,5 @@ unfolding state_byte
 state_byte_spec =
     tie.close
     (tie.spec (search rules) (search rules) (search rules) (search rules) (search rules) (search rules)
-    (λ c. simp c.enum_told.given.1) (λ c. simp c.before.p.given.1) (λ c. simp c.enum-told2.given.1)
+    (λ c. simp c.in-Fetch.is) (λ c. simp c.before.p.given.1) (λ c. simp c.enum-told2.given.1)
     (λ c. simp c.enum-told3.given.1) (λ c. simp c.enum-told4.given.1) (λ c. simp c.enum-told5.given.1))

@@ -10,5 +10,5 @@ pub acknowledge_spec : {M : Type 1} → statement M
 unfolding acknowledge_in
 acknowledge_spec =
     tie.close
-    (tie.spec (λ c. simp c.match.keys1) (λ c. simp c.match.keys2)
+    (tie.spec (λ c. simp c.in-0.is) (λ c. simp c.in-1.is)
     (λ c. rw (get_or-eq_default _ _ (past 2 c.match.rest))))

@@ -10,4 +10,4 @@ pub broken_spec : {M : Type 1} → statement M
 unfolding broken_of cold_of
 broken_spec =
     tie.close
-    (tie.spec (search rules) (search rules) (λ c. simp (c.with_regs.ensures, c.before.before.cold.ensures)))
+    (tie.spec (search rules) (search rules) (λ c. simp (c.with_regs.ensures, c.before.before.cold-m.ensures)))

@@ -10,6 +10,6 @@ pub position_spec : {M : Type 1} → statement M
 unfolding position_in
 position_spec =
     tie.close
-    (tie.spec (λ c. simp c.match.keys1) (λ c. simp c.match.keys2) (λ c. simp c.match.keys3)
-    (λ c. simp c.match.keys4) (λ c. simp c.match.keys5)
+    (tie.spec (λ c. simp c.in-0.is) (λ c. simp c.in-1.is) (λ c. simp c.in-2.is)
+    (λ c. simp c.in-3.is) (λ c. simp c.in-4.is)
     (λ c. rw (get_or-eq_default _ _ (past 5 c.match.rest))))

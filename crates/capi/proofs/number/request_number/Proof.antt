@@ -12,6 +12,6 @@ request_number_spec =
     (tie.spec (search rules) (search rules) (search rules) (search rules) (search rules) (search rules) (search rules)
     (search rules) (search rules) (search rules) (search rules) (search rules) (search rules) (search rules)
     (search rules) (search rules) (search rules) (search rules) (search rules) (search rules) (search rules)
-    (search rules) (search rules) (λ c. simp c.enum_told.given.1) (λ c. simp c.before.q.given.1)
+    (search rules) (search rules) (λ c. simp c.in-Nothing.is) (λ c. simp c.before.q.given.1)
     (λ c. simp c.before.q2.given.1) (λ c. simp c.before.q3.given.1) (λ c. simp c.before.q4.given.1)
     (λ c. simp c.before.q5.given.1))

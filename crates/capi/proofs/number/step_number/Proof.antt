@@ -16,8 +16,8 @@ by-stop c =
     let test = c.before.before.before in
     simp (
       ← c.stopped.ensures,
-      ne_eqb _ _ c.before.if2.false,
-      not-false test.before.well.result test.if1.false,
+      ne_eqb _ _ c.before.if-m-eq4294967295.false,
+      not-false test.before.well.result test.if-not-well.false,
       ← test.before.well.ensures,
     )
 
@@ -26,7 +26,7 @@ unfolding step_number
 step_number_spec =
     tie.close
     (tie.spec (search rules)
-    (λ c. simp (not-true c.before.well.result c.if1.true, ← c.before.well.ensures))
+    (λ c. simp (not-true c.before.well.result c.if-not-well.true, ← c.before.well.ensures))
     (λ c.
     let test = c.before.before in
     simp (eq-eqb _ _ c.if2.true, not-false test.before.well.result test.if1.false, ← test.before.well.ensures))
