@@ -9,11 +9,6 @@ use Rattle.saved.specs.Header.{header_with}
 use Rattle.saved.proofs.Put.{copied}
 use Rattle.capi.specs.Flat.{flat_of, record_with}
 
-pub put_flat : (m : Machine) (z h z' : List ℕ) → length z ≡ 64 → h ≡ flat_of m
-    → z' ≡ take (length h) h ++ drop (length h) z → z' ≡ record_with z m
-unfolding flat_of header_with record_with
-put_flat m z h z' n e c =
-    c
-    ∙ ap (λ (l : List ℕ). take (length l) l ++ drop (length l) z) e
-    ∙ copied (flat_of m) z (omega arith)
-    ∙ rw n
+pub put_flat : (m : Machine) (z h z' : List ℕ) → length z ≡ 64 → h ≡ flat_of m → z' ≡ h → z' ≡ record_with z m
+unfolding record_with
+put_flat m z h z' n e c = c ∙ e ∙ rw n

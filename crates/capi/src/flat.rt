@@ -9,6 +9,7 @@ use run::answer::Answer;
 use saved::header::header_with;
 
 // The cycle that comes next or goes on, 0 where none is named.
+#[tactic(auto, unfolding(crate::specs::Flat::cycle_byte))]
 fn cycle_byte(p: Position) -> u8
     ensures { result ≡ cycle_byte p }
 {
@@ -23,6 +24,7 @@ fn cycle_byte(p: Position) -> u8
 }
 
 // The state that comes next, 0 where none is named.
+#[tactic(auto, unfolding(crate::specs::Flat::state_byte))]
 fn state_byte(p: Position) -> u8
     ensures { result ≡ state_byte p }
 {

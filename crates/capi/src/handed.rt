@@ -10,6 +10,7 @@ use opcodes::cycle::Acknowledge;
 use saved::fields::{clock_in, lines_in, registers_in};
 
 // What comes next, by its byte, with the cycle c and the state s.
+#[tactic(auto, unfolding(crate::specs::Handed::position_in))]
 fn position(what: u8, c: u8, s: u8) -> Position
     ensures { result ≡ position_in what c s }
 {
@@ -24,6 +25,7 @@ fn position(what: u8, c: u8, s: u8) -> Position
 }
 
 // The acknowledge by its byte.
+#[tactic(auto, unfolding(crate::specs::Handed::acknowledge_in))]
 fn acknowledge(n: u8) -> Acknowledge
     ensures { result ≡ acknowledge_in n }
 {

@@ -18,6 +18,7 @@ const CLOCK_RANGE: u8 = 9;
 const STOPPED: u8 = 10;
 
 // A request: which it is, times 2^24, the byte, times 2^16, and the address or the port.
+#[tactic(auto, unfolding(crate::specs::Numbers::request_number))]
 pub(crate) fn request_number(q: Request) -> u32
     ensures { result ≡ request_number q }
 {

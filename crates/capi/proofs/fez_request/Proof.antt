@@ -9,12 +9,12 @@ pub fez_request_spec : {M : Type 1} → statement M
 unfolding request_call
 fez_request_spec =
     tie.close
-    (tie.spec (search rules) (search rules) (λ c κs. c.before.before.table.ensures) (search rules) (search rules)
+    (tie.spec (search rules) (search rules) (λ c κs. c.before.before.table-t.ensures) (search rules) (search rules)
     (λ c.
     let look = c.before.before in
     simp (
-      c.request-number.ensures,
+      c.request_number.ensures,
       c.before.request.ensures,
-      look.look.ensures,
-      look.before.before.handed.ensures,
+      look.look-y.ensures,
+      look.before.before.handed-m.ensures,
     )))

@@ -11,4 +11,4 @@ formed_spec =
     tie.close
     (tie.spec (search rules) (search rules) (search rules) (search rules) (search rules) (search rules) (search rules)
     (search rules) (search rules)
-    (λ c. simp (← c.zeros2.ensures, ← c.before.zeros.ensures, ← c.before.before.place-fits.ensures)))
+    (λ c. simp (← c.zeros-2.ensures, ← c.before.zeros.ensures, ← c.before.before.place_fits.ensures)))

@@ -13,8 +13,8 @@ handed_spec =
     (tie.spec (search rules) (search rules) (search rules) (search rules)
     (λ c.
     let formed = c.before.before in
-    simp (← c.recorded.ensures, eq-eqb _ _ formed.before.if1.true, ← formed.formed.ensures, c.before.if2.true))
+    simp (← c.recorded.ensures, eq-eqb _ _ formed.before.if-z-eq64.true, ← formed.formed.ensures, c.before.if-formed.true))
     (λ c.
     let formed = c.before.before in
-    simp (← c.broken.ensures, eq-eqb _ _ formed.before.if1.true, ← formed.formed.ensures, c.before.if2.false))
-    (λ c. simp (← c.broken2.ensures, ne_eqb _ _ c.before.if1.false)))
+    simp (← c.broken.ensures, eq-eqb _ _ formed.before.if-z-eq64.true, ← formed.formed.ensures, c.before.if-formed.false))
+    (λ c. simp (← c.broken-else-z-eq64.ensures, ne_eqb _ _ c.before.if-z-eq64.false)))

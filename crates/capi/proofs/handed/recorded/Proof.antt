@@ -15,8 +15,8 @@ recorded_spec =
     let parts = c.before.before.before.before in
     simp (
       ← c.position.ensures,
-      ← parts.clock-in.ensures,
-      ← parts.before.lines-in.ensures,
+      ← parts.clock_in.ensures,
+      ← parts.before.lines_in.ensures,
       ← parts.before.before.kept.ensures,
-      ← parts.before.before.before.registers-in.ensures,
+      ← parts.before.before.before.registers_in.ensures,
     )))
