@@ -10,4 +10,4 @@ unfolding flagged_number
 flagged_number_spec =
     tie.close
     (tie.spec (search rules) (search rules) (search rules) (search rules) (search rules)
-    (λ c. simp (← c.flag-byte.ensures)))
+    (λ c. simp (← c.flag_byte.ensures)))

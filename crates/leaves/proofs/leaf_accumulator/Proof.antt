@@ -10,4 +10,4 @@ unfolding leaf_accumulator_of
 leaf_accumulator_spec =
     tie.close
     (tie.spec (search rules) (search rules) (search rules)
-    (λ c. simp (← c.flagged-number.ensures, ← c.before.accumulator.ensures, ← c.before.before.flags_of.ensures)))
+    (λ c. simp (← c.flagged_number.ensures, ← c.before.accumulator.ensures, ← c.before.before.flags_of.ensures)))

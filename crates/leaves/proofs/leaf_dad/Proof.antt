@@ -10,4 +10,4 @@ unfolding leaf_dad_of
 leaf_dad_spec =
     tie.close
     (tie.spec (search rules) (search rules) (search rules) (search rules) (search rules) (search rules)
-    (λ c. simp (← c.bit.ensures.0, ← c.before.before.dad.ensures)))
+    (λ c. simp (← c.bit.ensures.0, ← c.before.before.dad-sum.ensures)))

@@ -10,4 +10,4 @@ unfolding leaf_dcr_of
 leaf_dcr_spec =
     tie.close
     (tie.spec (search rules) (search rules) (search rules)
-    (λ c. simp (← c.flagged-number.ensures, ← c.before.dcr.ensures, ← c.before.before.flags_of.ensures)))
+    (λ c. simp (← c.flagged_number.ensures, ← c.before.dcr.ensures, ← c.before.before.flags_of-before.ensures)))

@@ -10,4 +10,4 @@ pub leaf_entry_spec : {M : Type 1} → statement M
 leaf_entry_spec =
     tie.close
     (tie.spec (search rules) (search rules)
-    (λ c. (rw c.before.before.table.ensures at c.entry.ensures) ∙ entry_at _ (search rules)))
+    (λ c. (rw c.before.before.table-all.ensures at c.entry.ensures) ∙ entry_at _ (search rules)))

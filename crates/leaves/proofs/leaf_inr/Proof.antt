@@ -10,4 +10,4 @@ unfolding leaf_inr_of
 leaf_inr_spec =
     tie.close
     (tie.spec (search rules) (search rules) (search rules)
-    (λ c. simp (← c.flagged-number.ensures, ← c.before.inr.ensures, ← c.before.before.flags_of.ensures)))
+    (λ c. simp (← c.flagged_number.ensures, ← c.before.inr.ensures, ← c.before.before.flags_of-before.ensures)))
