@@ -1,9 +1,9 @@
-//! Links the proved functions, which `./make-library` writes to target/staticlib/libcapi.a.
+//! Links the proved functions, which `./make-library` writes to crates/capi/out/libcapi.a.
 
 use std::path::Path;
 
 fn main() {
-    let folder = Path::new(env!("CARGO_MANIFEST_DIR")).join("../target/staticlib");
+    let folder = Path::new(env!("CARGO_MANIFEST_DIR")).join("../crates/capi/out");
     let archive = folder.join("libcapi.a");
     println!("cargo:rerun-if-changed={}", archive.display());
     assert!(

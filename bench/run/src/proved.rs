@@ -1,4 +1,4 @@
-//! The function of `crates/rounds`, from the archive that `rt staticlib rounds` writes.
+//! The function of `crates/rounds`, from the archive that `rt lib` writes there.
 
 /// As C has it: a slice is two arguments, pointer and length.
 mod c {

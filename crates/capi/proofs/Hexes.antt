@@ -1,4 +1,4 @@
--- What the C functions of Intel HEX answer, from what `hex` answers.
+-- What the C functions of Intel HEX answer, from what `intel_hex` answers.
 -- Assumes nothing.
 use Prim.Native.Nat.{ℕ}
 use mathlib.Core.Path.{◌≡◌}
