@@ -2,7 +2,6 @@
 -- the arithmetic vectors of docs/DECISIONS.md. Assumes nothing.
 use Rattle.std.proofs.Common.{◌≡◌, ℕ, Bool, true, false, ◌&&◌, T, eqb, List, [], ◌∷◌, refl}
 use Rattle.alu.specs.declared.flags.Flagged.{Flagged}
-use Rattle.alu.specs.declared.words.Sum16.{Sum16}
 use Rattle.alu.specs.Flags.{flag_byte_of, result_of, with_cy, parity_of}
 use Rattle.alu.specs.Sums.{sum_of, half_carry_of, add_of, sub_of, cmp_of, keep_cy, inr_of, dcr_of, daa_of}
 use Rattle.alu.specs.Logic.{and_carry_of, ana_of, xra_of, ora_of}

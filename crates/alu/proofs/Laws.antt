@@ -1,8 +1,8 @@
 -- Laws of the definitions: a flag as a number, the flag byte and back, and steps that wrap. Cited by the crates above.
 -- Assumes nothing.
-use Rattle.std.proofs.Common.{◌≡◌, ℕ, ◌+◌, ◌-◌, ◌/◌, ◌%◌, ◌<◌, ◌≤◌, Bool, true, false, ◌&&◌, T, eqb, refl, ap, ◌∙◌, arith, lit<, eqb→eq}
+use Rattle.std.proofs.Common.{◌≡◌, ℕ, ◌/◌, ◌%◌, ◌<◌, ◌≤◌, Bool, true, false, T, eqb, refl, arith, lit<, eqb→eq}
 use lib.Bits.{bit_and, bit_or}
-use Rattle.laws.proofs.Every.{every, below, either, same, same→eq, and_left, and_right}
+use Rattle.laws.proofs.Every.{every, below}
 use Rattle.alu.specs.declared.flags.Flags.{Flags}
 use Rattle.alu.specs.Flags.{bit_of, flag_byte_of, flags_of}
 use Rattle.alu.specs.Words.{up_of, down_of}

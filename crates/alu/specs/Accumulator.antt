@@ -1,6 +1,6 @@
 -- Rotates, complement and carry. Source: Intel's 8080 manual: the rotates, STC and CMC change CY only, CMA no flag.
 -- Cited by `alu::accumulator`.
-use Rattle.std.specs.Prelude.{ℕ, ◌+◌, ◌-◌, ◌*◌, ◌/◌, ◌%◌, Bool, true, false, not, ◌==◌, nat_le}
+use Rattle.std.specs.Prelude.{ℕ, ◌+◌, ◌-◌, ◌*◌, ◌/◌, ◌%◌, Bool, true, not, ◌==◌, nat_le}
 use Rattle.alu.specs.declared.flags.Flags.{Flags}
 use Rattle.alu.specs.declared.flags.Flagged.{Flagged}
 use Rattle.alu.specs.Flags.{bit_of, with_cy}

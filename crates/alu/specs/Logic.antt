@@ -1,6 +1,6 @@
 -- AND, exclusive OR and OR. Source: document 01, "Arithmetic points", and for AC after AND change request W2.
 -- Cited by `alu::logic`.
-use Rattle.std.specs.Prelude.{ℕ, ◌/◌, ◌%◌, Bool, true, false, ◌||◌, ◌==◌, bit_and, bit_or, bit_xor}
+use Rattle.std.specs.Prelude.{ℕ, ◌/◌, ◌%◌, Bool, false, ◌||◌, ◌==◌, bit_and, bit_or, bit_xor}
 use Rattle.alu.specs.declared.flags.Flagged.{Flagged}
 use Rattle.alu.specs.Flags.{result_of}
 

@@ -1,6 +1,6 @@
 -- Addition, subtraction, comparison, counting, decimal adjusting. Source: document 01, "Arithmetic points".
 -- Cited by `alu::sums`.
-use Rattle.std.specs.Prelude.{ℕ, ◌+◌, ◌-◌, ◌*◌, ◌%◌, Bool, true, false, not, ◌||◌, nat_lt}
+use Rattle.std.specs.Prelude.{ℕ, ◌+◌, ◌-◌, ◌*◌, ◌%◌, Bool, false, not, ◌||◌, nat_lt}
 use Rattle.alu.specs.declared.flags.Flagged.{Flagged}
 use Rattle.alu.specs.Flags.{bit_of, result_of, with_cy}
 

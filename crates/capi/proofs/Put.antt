@@ -6,7 +6,6 @@ use native.Mathlib.Omega.{arith}
 use lib.ListN.{length, take, drop}
 use Rattle.machine.specs.declared.record.Machine.{Machine}
 use Rattle.saved.specs.Header.{header_with}
-use Rattle.saved.proofs.Put.{copied}
 use Rattle.capi.specs.Flat.{flat_of, record_with}
 
 pub put_flat : (m : Machine) (z h z' : List ℕ) → length z ≡ 64 → h ≡ flat_of m → z' ≡ h → z' ≡ record_with z m

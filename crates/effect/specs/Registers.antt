@@ -1,9 +1,7 @@
 -- The registers by number, the pairs, and the registers with a part of them changed. Source: document 01, "The machine";
 -- Intel's 8080 manual for the numbers. Cited by `effect::registers` and everything above.
-use Rattle.std.specs.Prelude.{ℕ, ◌+◌, ◌*◌, ◌/◌, ◌%◌, Bool, true, false, List, [], ◌∷◌, slice_index, slice_set}
-use Rattle.laws.specs.Choice.{pick}
-use Rattle.alu.specs.Flags.{flag_byte_of, flags_of}
-use Rattle.alu.specs.Words.{up_of}
+use Rattle.std.specs.Prelude.{ℕ, ◌+◌, ◌*◌, ◌%◌, Bool, List, [], ◌∷◌, slice_index, slice_set}
+use Rattle.alu.specs.Flags.{flag_byte_of}
 use Rattle.alu.specs.declared.flags.Flags.{Flags}
 use Rattle.alu.specs.declared.flags.Flagged.{Flagged}
 use Rattle.effect.specs.declared.registers.Registers.{Registers}

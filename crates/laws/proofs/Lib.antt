@@ -1,7 +1,6 @@
 -- The modules of this folder.
 pub mod Every
 pub mod Listed
-pub mod Last
 pub mod Order
 pub mod Tests
 pub mod Unique

@@ -1,8 +1,7 @@
 -- Document 01's sample program, 3E 05 76 from a cold start: when A changes, computed from the rules. Its printed lines are in
 -- `demands`, of the contract of `run`.
 -- Assumes nothing.
-use Rattle.std.proofs.Common.{◌≡◌, ℕ, zero, suc, ◌+◌, ◌*◌, List, [], ◌∷◌, get_or, set, refl}
-use Rattle.alu.specs.Words.{up_of}
+use Rattle.std.proofs.Common.{◌≡◌, ℕ, zero, suc, List, [], ◌∷◌, get_or, refl}
 use Rattle.opcodes.specs.Condition.{met_of}
 use Rattle.opcodes.specs.Cycles.{cycling}
 use Rattle.opcodes.specs.Kinds.{writes_of, kind_of, status_of, states_of, waits_of, reads_of, raises_of}
@@ -12,7 +11,6 @@ use Rattle.effect.specs.Kept.{kept_for, keep_of, wz_of}
 use Rattle.effect.specs.Bus.{address_of, given_of}
 use Rattle.effect.specs.Effect.{finish, effect_of}
 use Rattle.machine.specs.declared.record.Machine.{Machine}
-use Rattle.machine.specs.declared.look.Look.{Look}
 use Rattle.machine.specs.declared.request.Request.{Request}
 use Rattle.machine.specs.declared.request.Request.TheVariants.{Nothing, Read, Write, Input, Output, Restart}
 use Rattle.machine.specs.Record.{cold_of}

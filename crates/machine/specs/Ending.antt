@@ -1,6 +1,6 @@
 -- How a cycle and an instruction end: holds, interrupts, halting. Source: document 01, "Waits, holds, interrupts, halt".
 -- Cited by `machine::ending`. In all of these c is the cycle, and n the number of the cycle after it, 0 after the last.
-use Rattle.std.specs.Prelude.{ℕ, Bool, true, false, not, ◌&&◌, ◌==◌, nat_lt}
+use Rattle.std.specs.Prelude.{ℕ, Bool, false, not, ◌&&◌, ◌==◌, nat_lt}
 use Rattle.laws.specs.Choice.{pick}
 use Rattle.opcodes.specs.declared.cycle.Acknowledge.{Acknowledge}
 use Rattle.opcodes.specs.declared.cycle.Acknowledge.TheVariants.{None, Running, Halted}

@@ -1,7 +1,7 @@
 -- What the digits of a code say, by computed tests over all codes of two digits.
 -- Assumes nothing.
 use mathlib.Core.Path.{◌≡◌}
-use mathlib.Core.Bool.{Bool, not, ◌&&◌, ◌||◌}
+use mathlib.Core.Bool.{Bool, ◌&&◌, ◌||◌}
 use Prim.Native.Nat.{ℕ, ◌*◌, ◌/◌, ◌%◌, ◌^◌, ◌<◌}
 use lib.Dec.{T, eqb, ltb, leb, eqb→eq}
 use Rattle.laws.proofs.Every.{every, below, same, same→eq}

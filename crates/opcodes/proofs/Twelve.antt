@@ -1,7 +1,7 @@
 -- The undefined opcodes are the twelve that document 01 names. Assumes nothing.
 use Prim.Native.Nat.{ℕ, ◌<◌}
 use mathlib.Core.Path.{◌≡◌}
-use mathlib.Core.Bool.{Bool, true, false, not, ◌||◌}
+use mathlib.Core.Bool.{Bool, false, not, ◌||◌}
 use mathlib.Core.List.{List, [], ◌∷◌}
 use lib.Dec.{T, eqb}
 use Rattle.laws.proofs.Every.{every, below, same, same→eq}

@@ -1,6 +1,6 @@
 -- The cycles of each instruction. Source: document 01, "Cycles", and Intel's 8080 manual.
 -- Cited by the packed table, and by everything that walks an instruction.
-use Rattle.std.specs.Prelude.{ℕ, Bool, true, false, not, List, [], ◌∷◌, eqb, length, get_or}
+use Rattle.std.specs.Prelude.{ℕ, Bool, true, not, List, [], ◌∷◌, eqb, length, get_or}
 use Rattle.laws.specs.Choice.{pick}
 use Rattle.opcodes.specs.Instructions.{Instruction, decode, decoding}
 use Rattle.opcodes.specs.Instructions.{nop, hlt, xchg, xthl, pchl, sphl, di, ei, jmp, call, ret, rcc, jcc, ccc}

@@ -1,6 +1,6 @@
 -- What a cycle's code says: its kind and status, its states, and what READY and PC do in it.
 -- Source: document 01, "Cycles" and "Waits, holds, interrupts, halt". Cited by `opcodes::cycle`.
-use Rattle.std.specs.Prelude.{ℕ, ◌+◌, ◌*◌, ◌/◌, ◌%◌, Bool, true, false, not, ◌&&◌, ◌||◌, List, [], ◌∷◌, eqb, ltb, leb, get_or}
+use Rattle.std.specs.Prelude.{ℕ, ◌+◌, ◌/◌, ◌%◌, Bool, true, false, not, ◌&&◌, ◌||◌, List, [], ◌∷◌, eqb, ltb, leb, get_or}
 use Rattle.laws.specs.Choice.{pick}
 use Rattle.opcodes.specs.Codes.{operand, halting, swap_l}
 use Rattle.opcodes.specs.declared.cycle.Acknowledge.{Acknowledge}

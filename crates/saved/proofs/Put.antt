@@ -11,10 +11,6 @@ use Rattle.saved.specs.Header.{header_with, header_of, saved_of}
 use Rattle.saved.specs.Fields.{ports_in, memory_in}
 use Rattle.saved.specs.Put.{put_at}
 
--- all of s, copied over a list of the same length, is s
-pub copied : (s z : List ℕ) → length z ≤ length s → take (length s) s ++ drop (length s) z ≡ s
-copied s z h = rw (take-length, drop_of_length-le z, append-nil)
-
 -- s over the part of z that begins at a and is as long
 pub put_part : (z s y : List ℕ) (a : ℕ) → y ≡ s → put_mid a (a + length s - a) z y ≡ put_at z a s
 unfolding put_at

@@ -1,5 +1,5 @@
 -- The levels at a state. Source: document 01, "Schedule". Cited by `schedule::levels` and by a run.
-use Rattle.std.specs.Prelude.{ℕ, zero, suc, ◌+◌, ◌*◌, ◌≤◌, ◌<◌, ◌≡◌, List, length, ltb, eqb}
+use Rattle.std.specs.Prelude.{ℕ, zero, suc, ◌*◌, ◌≤◌, ◌<◌, ◌≡◌, List, length, ltb, eqb}
 use Rattle.laws.specs.Choice.{pick}
 use Rattle.machine.specs.declared.record.Lines.{Lines}
 use Rattle.schedule.specs.Events.{state_number_of, line_of, value_of}

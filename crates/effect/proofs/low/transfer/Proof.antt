@@ -2,7 +2,7 @@
 -- Assumes nothing.
 use Rattle.effect.specs.Effect.{finish}
 use Rattle.opcodes.specs.Instructions.{transfers, nth}
-use Rattle.std.proofs.Common.{◌≡◌, arith, rules}
+use Rattle.std.proofs.Common.{◌≡◌, arith}
 use Rattle.effect.proofs.low.transfer.Statement.{statement}
 use Rattle.effect.proofs.low.transfer.Tie as tie
 

@@ -1,7 +1,7 @@
 -- `machine::look::shown` meets its contract.
 -- Assumes nothing.
 use Rattle.machine.specs.Look.{shown_of}
-use Rattle.std.proofs.Common.{rules, eq-eqb, ne_eqb}
+use Rattle.std.proofs.Common.{eq-eqb, ne_eqb}
 use Rattle.machine.proofs.look.shown.Statement.{statement}
 use Rattle.machine.proofs.look.shown.Tie as tie
 

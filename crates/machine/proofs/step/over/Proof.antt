@@ -1,6 +1,6 @@
 -- `machine::step::over` meets its contract.
 -- Assumes nothing.
-use Rattle.std.proofs.Common.{rules, eq-eqb, ne_eqb}
+use Rattle.std.proofs.Common.{eq-eqb, ne_eqb}
 use Rattle.machine.proofs.step.over.Statement.{statement}
 use Rattle.machine.proofs.step.over.Tie as tie
 

@@ -1,7 +1,6 @@
 -- `machine::well::bytes` meets its contract.
 -- Assumes nothing.
 use Rattle.machine.specs.Well.{bytes_of}
-use Rattle.std.proofs.Common.{rules}
 use Rattle.machine.proofs.well.bytes.Statement.{statement}
 use Rattle.machine.proofs.well.bytes.Tie as tie
 

@@ -2,7 +2,6 @@
 -- Assumes nothing.
 use Rattle.opcodes.specs.Kinds.{states_of}
 use borrow.Author.Tests.{eq-eqb, ne_eqb}
-use borrow.Author.Rules.{rules}
 use Rattle.opcodes.proofs.cycle.states.Statement.{statement}
 use Rattle.opcodes.proofs.cycle.states.Tie as tie
 

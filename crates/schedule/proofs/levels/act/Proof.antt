@@ -3,7 +3,6 @@
 use Rattle.schedule.specs.Levels.{act_of}
 use native.Mathlib.Omega.{arith}
 use borrow.Author.Tests.{ne_eqb, le-ltb}
-use borrow.Author.Rules.{rules}
 use Rattle.schedule.proofs.levels.act.Statement.{statement}
 use Rattle.schedule.proofs.levels.act.Tie as tie
 

@@ -1,13 +1,10 @@
 -- `schedule::levels::levels_at` meets its contract. The loop has
 -- done the events behind it; the measure is how many lie ahead.
 -- Assumes nothing.
-use Prim.Native.Nat.{ℕ, ◌+◌, ◌-◌, ◌≤◌, ◌<◌}
-use mathlib.Core.Path.{◌≡◌, sym, ap, ◌∙◌}
-use native.Mathlib.Omega.{arith}
-use borrow.Author.Count.{below_more}
+use Prim.Native.Nat.{ℕ, ◌-◌, ◌≤◌, ◌<◌}
+use mathlib.Core.Path.{◌≡◌}
 use Rattle.schedule.specs.Events.{state_number_of}
-use Rattle.schedule.specs.Levels.{levels_at, once_of}
-use Rattle.schedule.proofs.Cursor.{levels-before, levels-rest, levels-next}
+use Rattle.schedule.specs.Levels.{levels_at}
 use Rattle.schedule.proofs.levels.levels_at.Given as goal
 
 abbrev pub invariant-loop-i : goal.invariant-loop-i

@@ -1,11 +1,9 @@
 -- `schedule::order::all_follow` meets its contract. The loop keeps what is left
 -- to test equal to the whole; the measure is how many are left.
 -- Assumes nothing.
-use Prim.Native.Nat.{ℕ, ◌+◌, ◌-◌, ◌≤◌, ◌<◌}
-use mathlib.Core.Path.{◌≡◌, sym, ◌∙◌}
-use native.Mathlib.Omega.{arith}
+use Prim.Native.Nat.{◌+◌}
+use mathlib.Core.Path.{◌≡◌}
 use Rattle.schedule.specs.Events.{all, follows_of}
-use Rattle.schedule.proofs.All.{all_go, all-stop, all_end}
 use Rattle.schedule.proofs.order.all_follow.Given as goal
 
 abbrev pub invariant-loop-left : goal.invariant-loop-left

@@ -1,10 +1,9 @@
 -- `schedule::order::all_listed` meets its contract. The loop keeps what is left
 -- to test equal to the whole; the measure is how many are left.
 -- Assumes nothing.
-use Prim.Native.Nat.{ℕ, ◌+◌, ◌-◌, ◌≤◌, ◌<◌}
-use mathlib.Core.Path.{◌≡◌, sym, ◌∙◌}
+use mathlib.Core.Path.{sym, ◌∙◌}
 use native.Mathlib.Omega.{arith}
-use Rattle.schedule.specs.Events.{all, listed_at}
+use Rattle.schedule.specs.Events.{listed_at}
 use Rattle.schedule.proofs.All.{all_go, all-stop, all_end}
 use Rattle.schedule.proofs.order.all_listed.Goals as goal
 
