@@ -50,6 +50,7 @@ fn states_verdict(m: Machine, l: usize, n: usize) -> Verdict
 
 // The tests 1 to 9, in that order: memory of x bytes, input ports of i, output ports of o, the schedule s, a trace of l bytes,
 // n states asked.
+#[tactic(auto, unfolding(crate::specs::Check::check_of))]
 pub(crate) fn check(
     m: Machine,
     x: usize,

@@ -15,6 +15,7 @@ fn no(reason: Refusal) -> Verdict
 }
 
 // Saving's tests in their order: 1, 2, 8, 11, 14; memory of x bytes, output ports of o, an output of l.
+#[tactic(auto, unfolding(crate::specs::Check::save_verdict))]
 pub(crate) fn save_verdict(m: Machine, x: usize, o: usize, l: usize) -> Verdict
     ensures { result ≡ save_verdict m x o l }
 {

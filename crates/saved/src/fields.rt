@@ -68,6 +68,7 @@ pub fn lines_in(s: &[u8]) -> Lines
 }
 
 // Whether each field is inside its range.
+#[tactic(auto, unfolding(crate::specs::Fields::in_range, crate::specs::Fields::lines_in, machine::specs::Well::levels_listed))]
 pub(crate) fn in_range(s: &[u8]) -> bool
     requires { 24 ≤ length s.now }
     ensures { result ≡ in_range s.now }
