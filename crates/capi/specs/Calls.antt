@@ -2,7 +2,6 @@
 -- Cited by the public functions. z is the record that is handed in, r the answer; a prime marks a list afterwards.
 use Rattle.std.specs.Prelude.{ℕ, ◌≡◌, List, eqb, length}
 use Rattle.laws.specs.Choice.{pick}
-use Rattle.machine.specs.declared.record.Machine.{Machine}
 use Rattle.machine.specs.Record.{cold_of}
 use Rattle.machine.specs.Look.{look_of}
 use Rattle.machine.specs.Request.{request_of}

@@ -3,7 +3,7 @@ use Rattle.std.specs.Prelude.{ℕ, ◌+◌, ◌*◌, ◌/◌, ◌≤◌, ◌<◌
 use Rattle.machine.specs.declared.record.Machine.{Machine}
 use Rattle.schedule.specs.Events.{state_number_of}
 use Rattle.run.specs.declared.answer.Ran.{Ran}
-use Rattle.run.specs.Run.{World, run_of}
+use Rattle.run.specs.Run.{run_of}
 use Rattle.run.specs.Outcome.{start_of, ran_in}
 
 -- n states of the machine m, over memory x, input ports i, output ports o, the schedule s and the trace l

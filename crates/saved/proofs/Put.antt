@@ -1,14 +1,14 @@
 -- Lists that are copied into parts of a list. Assumes nothing.
-use Prim.Native.Nat.{ℕ, ◌+◌, ◌-◌, ◌≤◌}
+use Prim.Native.Nat.{ℕ, ◌+◌, ◌-◌}
 use mathlib.Core.Path.{◌≡◌, refl, sym, ap, ◌∙◌}
 use mathlib.Core.List.{List, [], ◌++◌, append_assoc, append-nil}
 use native.Mathlib.Omega.{arith}
-use lib.ListN.{length, take, drop, length-append, length-take, length-drop, drop_of_length-le}
-use lib.Seq.{take_at, take_all, take-length, slice_empty, drop-append-add}
-use borrow.Rule.Slice.PartMut.{mid_of, put_mid, Post-is}
+use lib.ListN.{length, take, drop, length-append, length-drop, drop_of_length-le}
+use lib.Seq.{take_at, take_all, drop-append-add}
+use borrow.Rule.Slice.PartMut.{put_mid, Post-is}
 use Rattle.machine.specs.declared.record.Machine.{Machine}
 use Rattle.saved.specs.Header.{header_with, header_of, saved_of}
-use Rattle.saved.specs.Fields.{ports_in, memory_in}
+use Rattle.saved.specs.Fields.{memory_in}
 use Rattle.saved.specs.Put.{put_at}
 
 -- s over the part of z that begins at a and is as long

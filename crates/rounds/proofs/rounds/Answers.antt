@@ -1,7 +1,7 @@
 -- `rounds::rounds` meets its contract. The loop keeps the result of all runs (Turn, `Turning`); the measure is the runs that
 -- are left. Assumes nothing.
-use Rattle.std.proofs.Common.{refl, ◌∙◌, rules}
-use Rattle.rounds.proofs.Turn.{Turning, turn, ending}
+use Rattle.std.proofs.Common.{refl, ◌∙◌}
+use Rattle.rounds.proofs.Turn.{turn, ending}
 use Rattle.rounds.proofs.rounds.Goals as goal
 
 pub loop-left-init : goal.loop-left-init

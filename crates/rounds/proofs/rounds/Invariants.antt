@@ -1,7 +1,6 @@
 -- `rounds::rounds` meets its contract. The loop keeps the result of all runs (Turn, `Turning`); the measure is the runs that
 -- are left. Assumes nothing.
-use Rattle.std.proofs.Common.{refl, ◌∙◌, rules}
-use Rattle.rounds.proofs.Turn.{Turning, turn, ending}
+use Rattle.rounds.proofs.Turn.{Turning}
 use Rattle.rounds.proofs.rounds.Given as goal
 
 abbrev pub invariant-loop-left : goal.invariant-loop-left

@@ -1,6 +1,6 @@
 -- `run::run` meets its contract: a good verdict makes the arguments fit for the states, any other leaves all as it was.
 -- Assumes nothing.
-use mathlib.Core.Path.{◌≡◌, sym, ap, ◌∙◌}
+use mathlib.Core.Path.{sym, ap, ◌∙◌}
 use native.Mathlib.Omega.{arith}
 use Rattle.run.specs.Run.{World}
 use Rattle.run.specs.Outcome.{start_of, verdict_of, answered_of}

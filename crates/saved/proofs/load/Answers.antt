@@ -1,6 +1,6 @@
 -- `saved::load` meets its contract: a good verdict gives the sizes that the reading needs, any other leaves all as it was.
 -- Assumes nothing.
-use mathlib.Core.Path.{◌≡◌, sym, ◌∙◌}
+use mathlib.Core.Path.{sym}
 use native.Mathlib.Omega.{arith}
 use Rattle.saved.proofs.Passed.{load_passed, loaded-good, loaded-refused}
 use Rattle.saved.proofs.load.Goals as goal

@@ -1,6 +1,6 @@
 -- `saved::save` meets its contract: a good verdict gives the sizes that the writing needs, any other leaves all as it was.
 -- Assumes nothing.
-use mathlib.Core.Path.{◌≡◌, sym, ◌∙◌}
+use mathlib.Core.Path.{sym}
 use Rattle.saved.proofs.Passed.{save_passed, saved-good, saved-refused}
 use Rattle.saved.proofs.save.Goals as goal
 

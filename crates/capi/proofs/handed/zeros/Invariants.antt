@@ -2,11 +2,8 @@
 -- to test equal to the whole; the measure is how many are left.
 -- Assumes nothing.
 use Prim.Native.Nat.{◌+◌}
-use mathlib.Core.Path.{◌≡◌, sym, ◌∙◌}
-use native.Mathlib.Omega.{arith}
-use borrow.Author.Tests.{eq-eqb, ne_eqb}
+use mathlib.Core.Path.{◌≡◌}
 use Rattle.schedule.specs.Events.{all}
-use Rattle.schedule.proofs.All.{all_go, all-stop, all_end}
 use Rattle.capi.specs.Handed.{zero_at}
 use Rattle.capi.proofs.handed.zeros.Given as goal
 

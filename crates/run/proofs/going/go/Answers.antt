@@ -1,13 +1,12 @@
 -- `run::going::go` meets its contract. The loop keeps the run's result (Turn, `Going`); the measure is the states that are left.
 -- Assumes nothing.
-use Prim.Native.Nat.{ℕ, ◌+◌, ◌-◌, ◌*◌, ◌≤◌, ◌<◌}
-use mathlib.Core.Path.{◌≡◌, refl, sym, ap, ◌∙◌}
+use mathlib.Core.Path.{refl, sym, ap, ◌∙◌}
 use native.Mathlib.Omega.{arith}
 use borrow.Author.Rules.{rules}
 use Rattle.run.specs.Run.{World}
 use Rattle.run.specs.Outcome.{ran_in}
 use Rattle.run.proofs.Laws.{run_none, run-stopped}
-use Rattle.run.proofs.Turn.{Going, turn, made_eventful, turn_clock}
+use Rattle.run.proofs.Turn.{turn, made_eventful, turn_clock}
 use Rattle.run.proofs.going.go.Goals as goal
 
 pub loop-left-init : goal.loop-left-init
