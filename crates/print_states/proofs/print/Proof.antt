@@ -11,7 +11,7 @@ returns c =
     let done = listed.before.before.before.before.before in
     let run = done.before.before.before.before.before in
     let cold = run.before.before.before.before.before.before in
-    whole _ _ _ _ _ _ _ _ _ _ cold.cold.ensures run.run.ensures run.run.auto.1.1.1.1.1.0 done.ran.ensures
+    whole _ _ _ _ _ _ _ _ _ _ cold.cold.ensures run.run-answer.ensures run.run-answer.auto.trace done.ran-after.ensures
     listed.listing.ensures
 
 pub print_spec : {M : Type 1} → statement M
