@@ -49,9 +49,9 @@ module _ (f : Flags) where
       (omega arith, omega arith, omega arith, omega arith, omega arith)
 
   -- the fixed bits of a flag byte: 0 at 5 and 3, 1 at 1
-  pub flags-fixed : (flag_byte_of f / 32 % 2 ≡ 0) × (flag_byte_of f / 8 % 2 ≡ 0) × (flag_byte_of f / 2 % 2 ≡ 1)
+  pub flags_fixed : (flag_byte_of f / 32 % 2 ≡ 0) × (flag_byte_of f / 8 % 2 ≡ 0) × (flag_byte_of f / 2 % 2 ≡ 1)
   unfolding flag_byte_of
-  flags-fixed =
+  flags_fixed =
       let s = bit_small f.s in
       let z = bit_small f.z in
       let ac = bit_small f.ac in
@@ -59,9 +59,9 @@ module _ (f : Flags) where
       let cy = bit_small f.cy in
       (omega arith, omega arith, omega arith)
 
-  pub flags-kept : flags_of (flag_byte_of f) ≡ f
+  pub flags_kept : flags_of (flag_byte_of f) ≡ f
   unfolding byte flags_of
-  flags-kept =
+  flags_kept =
       λ i.
       record {
         s = bit_is (byte / 128 % 2) f.s bits.0 i;

@@ -16,7 +16,7 @@ use Rattle.machine.specs.Record.{cold_of, with_regs, next_number}
 use Rattle.machine.specs.Well.{fixed_of, well_of}
 use Rattle.schedule.specs.Events.{all}
 use Rattle.saved.specs.Header.{header_with}
-use Rattle.saved.proofs.Back.{bit_range, registers-back, lines-back, clock-back}
+use Rattle.saved.proofs.Back.{bit_range, registers_back, lines_back, clock_back}
 use Rattle.capi.specs.Flat.{cycle_byte, state_byte, acknowledge_byte, inside_bytes, flat_of, record_with}
 use Rattle.capi.specs.Handed.{position_in, acknowledge_in, kept_in, recorded_of, place_fits, formed_of, broken_of, handed_of}
 
@@ -42,7 +42,7 @@ read_flat m =
     let what = next_number m.next in
     λ i.
     record {
-      regs = registers-back what m (inside_bytes m) i;
+      regs = registers_back what m (inside_bytes m) i;
       kept =
           record {
             opcode = m.kept.opcode;
@@ -53,8 +53,8 @@ read_flat m =
             b3 = m.kept.b3;
             b4 = m.kept.b4;
           };
-      lines = lines-back what m (inside_bytes m) i;
-      clock = clock-back what m (inside_bytes m) i;
+      lines = lines_back what m (inside_bytes m) i;
+      clock = clock_back what m (inside_bytes m) i;
       next = position_back m.next i;
     }
 

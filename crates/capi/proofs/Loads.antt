@@ -49,10 +49,10 @@ load_none z s x o ne =
     record { answer = rw no; machine = rw no; memory = rw no; outputs = rw no }
 
 module _ (z s x o : List ℕ) (k : Machine) (x' o' : List ℕ) (size : length z ≡ 64) where
-  pub load-loaded : (m : Machine) (a : Loading) (z' : List ℕ) → Loads k s x o a x' o' → a ≡ Loaded m → z' ≡ record_with z m
+  pub load_loaded : (m : Machine) (a : Loading) (z' : List ℕ) → Loads k s x o a x' o' → a ≡ Loaded m → z' ≡ record_with z m
       → LoadCall z s x o 0 z' x' o'
   unfolding load_call_verdict record_with
-  load-loaded m a z' l e p =
+  load_loaded m a z' l e p =
       let yes = eq-eqb (length z) 64 size in
       let v = load_verdict s (length x) (length o) in
       let told = sym e ∙ l.answer in

@@ -11,12 +11,12 @@ use Rattle.capi.specs.Numbers.{step_number}
 use Rattle.capi.specs.Calls.{StepCall}
 
 module _ (z : List ℕ) (v r : ℕ) (m : Machine) (handed : m ≡ handed_of z) (number : r ≡ step_number m) where
-  pub step-done : (n : Machine) (z' : List ℕ) → r ≡ 0 → n ≡ step_of v m → z' ≡ record_with z n → StepCall z v r z'
-  step-done n z' e s p =
+  pub step_done : (n : Machine) (z' : List ℕ) → r ≡ 0 → n ≡ step_of v m → z' ≡ record_with z n → StepCall z v r z'
+  step_done n z' e s p =
       record {
         answer = number ∙ ap step_number handed;
         machine = p ∙ rw (s, ← handed, ← number, eq-eqb r 0 e);
       }
 
-  pub step-refused : (r ≡ 0 → ⊥) → StepCall z v r z
-  step-refused ne = record { answer = number ∙ ap step_number handed; machine = rw (← handed, ← number, ne_eqb r 0 ne) }
+  pub step_refused : (r ≡ 0 → ⊥) → StepCall z v r z
+  step_refused ne = record { answer = number ∙ ap step_number handed; machine = rw (← handed, ← number, ne_eqb r 0 ne) }

@@ -84,20 +84,20 @@ by_verdict verdict.Good c w x r e =
 by_verdict (verdict.Refused q) c w x r e = refused q c (ran_in w) r e
 
 module _ (w : World) (inputs s : List ℕ) (n : ℕ) where
-  pub answer-good : (stopped : Bool) (r : Ran) → answer_of w inputs s n ≡ answering stopped r → Good stopped w inputs s n r
+  pub answer_good : (stopped : Bool) (r : Ran) → answer_of w inputs s n ≡ answering stopped r → Good stopped w inputs s n r
   unfolding answer_of
-  answer-good stopped r e =
+  answer_good stopped r e =
       let (f, g, h) = by_verdict (verdict_of w inputs s n) stopped w (run_of s inputs n w) r e in
       record { verdict = f; ends = g; ran = h }
 
   -- what the tests say
-  pub good-time : verdict_of w inputs s n ≡ verdict.Good → w.machine.clock + n ≤ 4294967295
+  pub good_time : verdict_of w inputs s n ≡ verdict.Good → w.machine.clock + n ≤ 4294967295
   unfolding verdict_of
-  good-time e = (check_fit w.machine w.memory inputs w.outputs s w.trace n e).time
+  good_time e = (check_fit w.machine w.memory inputs w.outputs s w.trace n e).time
 
-  pub good-room : verdict_of w inputs s n ≡ verdict.Good → 8 * n ≤ length w.trace
+  pub good_room : verdict_of w inputs s n ≡ verdict.Good → 8 * n ≤ length w.trace
   unfolding verdict_of
-  good-room e = (check_fit w.machine w.memory inputs w.outputs s w.trace n e).room
+  good_room e = (check_fit w.machine w.memory inputs w.outputs s w.trace n e).room
 
   pub good_well : verdict_of w inputs s n ≡ verdict.Good → T (well_of w.machine)
   unfolding verdict_of check_of states_verdict

@@ -19,7 +19,7 @@ use Rattle.run.specs.Run.{World, eventful_of, state_of, run_of}
 use Rattle.demands.specs.Outside.{Outside, levels_from, outside_of}
 use Rattle.demands.specs.Board.{Board, board_of}
 use Rattle.demands.proofs.Steps.{driven, state_from, step, run}
-use Rattle.demands.proofs.Lines.{ready-only, hold-only, event_int}
+use Rattle.demands.proofs.Lines.{ready_only, hold_only, event_int}
 
 -- the clock of a machine that has not stopped counts one state
 ticked : (p : Position) (t : ℕ) → stopped_of p ≡ false → t < 4294967295 → ticked_of p t ≡ t + 1
@@ -41,42 +41,42 @@ module _ (s inputs : List ℕ) (m₀ : Machine) where
     pub ready : m.lines.ready ≡ (levels_before j).ready
     pub hold : m.lines.hold ≡ (levels_before j).hold
 
-  level-step : (j : ℕ) → levels_from s m₀.clock m₀.lines j ≡ levels_at s (length s / 6) (m₀.clock + j) (levels_before j)
+  level_step : (j : ℕ) → levels_from s m₀.clock m₀.lines j ≡ levels_at s (length s / 6) (m₀.clock + j) (levels_before j)
   unfolding levels_from
-  level-step zero = ap (λ (u : ℕ). levels_at s (length s / 6) u m₀.lines) (let e : m₀.clock ≡ m₀.clock + 0 = omega arith in e)
-  level-step (suc j) = refl
+  level_step zero = ap (λ (u : ℕ). levels_at s (length s / 6) u m₀.lines) (let e : m₀.clock ≡ m₀.clock + 0 = omega arith in e)
+  level_step (suc j) = refl
 
   -- the events give the levels of the state
   module _ (j : ℕ) (m : Machine) (k : Tracks j m) where
     -- a level that comes from its own events alone
-    level-is : (f : Lines → ℕ)
+    level_is : (f : Lines → ℕ)
         → ((l : Lines) → f m.lines ≡ f l
         → f (levels_at s (length s / 6) m.clock m.lines) ≡ f (levels_at s (length s / 6) m.clock l))
         → f m.lines ≡ f (levels_before j) → f (eventful_of s m).lines ≡ f (levels_from s m₀.clock m₀.lines j)
     unfolding eventful_of with_lines
-    level-is f only e =
+    level_is f only e =
         only (levels_before j) e
         ∙ ap (λ (u : ℕ). f (levels_at s (length s / 6) u (levels_before j))) k.clock
-        ∙ ap f (sym (level-step j))
+        ∙ ap f (sym (level_step j))
 
-    ready-is : (eventful_of s m).lines.ready ≡ (levels_from s m₀.clock m₀.lines j).ready
-    ready-is = level-is (λ l. l.ready) (ready-only s m.clock (length s / 6) m.lines) k.ready
+    ready_is : (eventful_of s m).lines.ready ≡ (levels_from s m₀.clock m₀.lines j).ready
+    ready_is = level_is (λ l. l.ready) (ready_only s m.clock (length s / 6) m.lines) k.ready
 
-    hold-is : (eventful_of s m).lines.hold ≡ (levels_from s m₀.clock m₀.lines j).hold
-    hold-is = level-is (λ l. l.hold) (hold-only s m.clock (length s / 6) m.lines) k.hold
+    hold_is : (eventful_of s m).lines.hold ≡ (levels_from s m₀.clock m₀.lines j).hold
+    hold_is = level_is (λ l. l.hold) (hold_only s m.clock (length s / 6) m.lines) k.hold
 
     -- the state j by its number
     from : levels_from s m₀.clock m₀.lines j ≡ levels_from s m₀.clock m₀.lines (m.clock - m₀.clock)
     from = ap (levels_from s m₀.clock m₀.lines) (let e : j ≡ m.clock - m₀.clock = omega (arith, k.clock) in e)
 
-    pub same-levels : eventful_of s m ≡ driven E m
+    pub same_levels : eventful_of s m ≡ driven E m
     unfolding eventful_of driven with_lines outside_of
-    same-levels =
+    same_levels =
         λ i.
         with_lines
         (record {
-          ready = (ready-is ∙ ap (λ (l : Lines). l.ready) from) i;
-          hold = (hold-is ∙ ap (λ (l : Lines). l.hold) from) i;
+          ready = (ready_is ∙ ap (λ (l : Lines). l.ready) from) i;
+          hold = (hold_is ∙ ap (λ (l : Lines). l.hold) from) i;
           int = event_int s m i;
         })
         m
@@ -87,15 +87,15 @@ module _ (s inputs : List ℕ) (m₀ : Machine) where
     tracks_on v f h =
         record {
           clock = ticked m.next m.clock f h ∙ omega (arith, k.clock);
-          ready = (levels_kept v (eventful_of s m)).0 ∙ ready-is;
-          hold = (levels_kept v (eventful_of s m)).1 ∙ hold-is;
+          ready = (levels_kept v (eventful_of s m)).0 ∙ ready_is;
+          hold = (levels_kept v (eventful_of s m)).1 ∙ hold_is;
         }
 
-  state-as : (w : World) (m : Machine) → m.clock ≡ w.machine.clock → m.next ≡ w.machine.next
+  state_as : (w : World) (m : Machine) → m.clock ≡ w.machine.clock → m.next ≡ w.machine.next
       → stopped_of w.machine.next ≡ false → w.machine.clock < 4294967295
       → board_of (state_of inputs m w) ≡ state_from E m (board_of w)
   unfolding state_of step_of with_clock outside_of
-  state-as w m e p f h =
+  state_as w m e p f h =
       ap
       (λ (u : ℕ).
       record {
@@ -105,38 +105,38 @@ module _ (s inputs : List ℕ) (m₀ : Machine) where
       })
       (ap₂ ticked_of p e ∙ ticked w.machine.next w.machine.clock f h ∙ ap (λ (u : ℕ). u + 1) (sym e))
 
-  same-state : (j : ℕ) (w : World) → Tracks j w.machine → stopped_of w.machine.next ≡ false → w.machine.clock < 4294967295
+  same_state : (j : ℕ) (w : World) → Tracks j w.machine → stopped_of w.machine.next ≡ false → w.machine.clock < 4294967295
       → board_of (state_of inputs (eventful_of s w.machine) w) ≡ step E (board_of w)
   unfolding step eventful_of with_lines
-  same-state j w k f h =
-      state-as w (eventful_of s w.machine) refl refl f h
-      ∙ ap (λ (m : Machine). state_from E m (board_of w)) (same-levels j w.machine k)
+  same_state j w k f h =
+      state_as w (eventful_of s w.machine) refl refl f h
+      ∙ ap (λ (m : Machine). state_from E m (board_of w)) (same_levels j w.machine k)
 
-  pub tracks-next : (j : ℕ) (w : World) → Tracks j w.machine → stopped_of w.machine.next ≡ false → w.machine.clock < 4294967295
+  pub tracks_next : (j : ℕ) (w : World) → Tracks j w.machine → stopped_of w.machine.next ≡ false → w.machine.clock < 4294967295
       → Tracks (suc j) (state_of inputs (eventful_of s w.machine) w).machine
   unfolding state_of
-  tracks-next j w k f h = tracks_on j w.machine k (heard (eventful_of s w.machine) w.memory inputs) f h
+  tracks_next j w k f h = tracks_on j w.machine k (heard (eventful_of s w.machine) w.memory inputs) f h
 
   either : (b : Bool) (w x : World) (y : Board) → (b ≡ false → board_of x ≡ y) → board_of (pick b w x) ≡ pick b (board_of w) y
   either true w x y f = refl
   either false w x y f = f refl
 
   -- n states of the contracts' run, from the state j on
-  bridge-from : (n j : ℕ) (w : World) → Tracks j w.machine → w.machine.clock + n ≤ 4294967295
+  bridge_from : (n j : ℕ) (w : World) → Tracks j w.machine → w.machine.clock + n ≤ 4294967295
       → board_of (run_of s inputs n w) ≡ run E n (board_of w)
   unfolding run_of run
-  bridge-from zero j w k h = refl
-  bridge-from (suc n) j w k h =
+  bridge_from zero j w k h = refl
+  bridge_from (suc n) j w k h =
       either (stopped_of w.machine.next) w (run_of s inputs n (state_of inputs (eventful_of s w.machine) w))
       (run E n (step E (board_of w)))
       (λ (f : stopped_of w.machine.next ≡ false).
       let l : w.machine.clock < 4294967295 = omega arith in
-      let k' = tracks-next j w k f l in
-      bridge-from n (suc j) (state_of inputs (eventful_of s w.machine) w) k' (omega (arith, k'.clock, k.clock))
-      ∙ ap (run E n) (same-state j w k f l))
+      let k' = tracks_next j w k f l in
+      bridge_from n (suc j) (state_of inputs (eventful_of s w.machine) w) k' (omega (arith, k'.clock, k.clock))
+      ∙ ap (run E n) (same_state j w k f l))
 
 -- the bridge: n states of the contracts' run from the world w
 pub bridge : (s inputs : List ℕ) (n : ℕ) (w : World) → w.machine.clock + n ≤ 4294967295
     → board_of (run_of s inputs n w) ≡ run (outside_of s inputs w.machine) n (board_of w)
 bridge s inputs n w h =
-    bridge-from s inputs w.machine n 0 w (record { clock = omega arith; ready = refl; hold = refl }) h
+    bridge_from s inputs w.machine n 0 w (record { clock = omega arith; ready = refl; hold = refl }) h

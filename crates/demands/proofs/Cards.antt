@@ -12,7 +12,7 @@ use Rattle.run.specs.declared.answer.Verdict.TheVariants as verdict
 use Rattle.run.specs.Run.{World, run_of}
 use Rattle.run.specs.Check.{check_of}
 use Rattle.run.specs.Outcome.{start_of, verdict_of, answered_of}
-use Rattle.run.proofs.Laws.{good_left, good-answer}
+use Rattle.run.proofs.Laws.{good_left, good_answer}
 use Rattle.demands.specs.Cards.{Cell, Shown, Card, stored, card_world, ports, card_leaves, shown_in, Passes}
 
 length_stored : (cs : List Cell) (x : List ℕ) → length (stored cs x) ≡ length x
@@ -85,7 +85,7 @@ unfolding answered_of
 passes k c =
     let f = ap (λ (x : Seen). x.verdict) c in
     let e = left_is k f in
-    let a = good-answer (card_world k) ports k.events (length k.states) (good k f) in
+    let a = good_answer (card_world k) ports k.events (length k.states) (good k f) in
     record {
       answer = rw (a, e, ap (λ (x : Seen). x.stopped) c, ap (λ (x : Seen). x.count) c);
       regs = rw e (ap (λ (x : Seen). x.regs) c);

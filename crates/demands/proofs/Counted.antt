@@ -57,24 +57,24 @@ row_rest l at r i h =
     ∙ set_rest l at r.state i (omega arith)
 
 module _ (s inputs : List ℕ) where
-  pub next-count : (w : World) → (next_of s inputs w).states ≡ w.states + 1
+  pub next_count : (w : World) → (next_of s inputs w).states ≡ w.states + 1
   unfolding state_of
-  next-count w = refl
+  next_count w = refl
 
   -- a run that does not stop counts the states asked
-  count-step : (b : Bool) (n : ℕ) (w v : World) → stopped_of w.machine.next ≡ b
+  count_step : (b : Bool) (n : ℕ) (w v : World) → stopped_of w.machine.next ≡ b
       → (stopped_of v.machine.next ≡ false → v.states ≡ w.states + suc n)
       → stopped_of (pick b w v).machine.next ≡ false → (pick b w v).states ≡ w.states + suc n
-  count-step true n w v e f g = absurd (false≢true (sym g ∙ e))
-  count-step false n w v e f g = f g
+  count_step true n w v e f g = absurd (false≢true (sym g ∙ e))
+  count_step false n w v e f g = f g
 
-  pub run-count : (n : ℕ) (w : World) → stopped_of (run_of s inputs n w).machine.next ≡ false
+  pub run_count : (n : ℕ) (w : World) → stopped_of (run_of s inputs n w).machine.next ≡ false
       → (run_of s inputs n w).states ≡ w.states + n
   unfolding run_of
-  run-count zero w h = omega arith
-  run-count (suc n) w h =
-      count-step (stopped_of w.machine.next) n w (run_of s inputs n (next_of s inputs w)) refl
-      (λ g. let e = run-count n (next_of s inputs w) g in let a = next-count w in omega (arith, e, a)) h
+  run_count zero w h = omega arith
+  run_count (suc n) w h =
+      count_step (stopped_of w.machine.next) n w (run_of s inputs n (next_of s inputs w)) refl
+      (λ g. let e = run_count n (next_of s inputs w) g in let a = next_count w in omega (arith, e, a)) h
 
   -- it never counts back
   pick_up : (b : Bool) (w v : World) → w.states ≤ v.states → w.states ≤ (pick b w v).states
@@ -86,23 +86,23 @@ module _ (s inputs : List ℕ) where
   run_up zero w = omega arith
   run_up (suc n) w =
       pick_up (stopped_of w.machine.next) w (run_of s inputs n (next_of s inputs w))
-      (let u = run_up n (next_of s inputs w) in let a = next-count w in omega (arith, u, a))
+      (let u = run_up n (next_of s inputs w) in let a = next_count w in omega (arith, u, a))
 
   -- the trace past the rows of the states counted is as it was
-  next-rest : (w : World) (i : ℕ) → 8 * w.states + 8 ≤ i → get_or (next_of s inputs w).trace i 0 ≡ get_or w.trace i 0
+  next_rest : (w : World) (i : ℕ) → 8 * w.states + 8 ≤ i → get_or (next_of s inputs w).trace i 0 ≡ get_or w.trace i 0
   unfolding state_of
-  next-rest w i h = row_rest w.trace (8 * w.states) _ i h
+  next_rest w i h = row_rest w.trace (8 * w.states) _ i h
 
-  rest-step : (b : Bool) (i : ℕ) (w v : World) → (8 * v.states ≤ i → get_or v.trace i 0 ≡ get_or w.trace i 0)
+  rest_step : (b : Bool) (i : ℕ) (w v : World) → (8 * v.states ≤ i → get_or v.trace i 0 ≡ get_or w.trace i 0)
       → 8 * (pick b w v).states ≤ i → get_or (pick b w v).trace i 0 ≡ get_or w.trace i 0
-  rest-step true i w v f h = refl
-  rest-step false i w v f h = f h
+  rest_step true i w v f h = refl
+  rest_step false i w v f h = f h
 
-  pub run-rest : (n : ℕ) (w : World) (i : ℕ) → 8 * (run_of s inputs n w).states ≤ i
+  pub run_rest : (n : ℕ) (w : World) (i : ℕ) → 8 * (run_of s inputs n w).states ≤ i
       → get_or (run_of s inputs n w).trace i 0 ≡ get_or w.trace i 0
   unfolding run_of
-  run-rest zero w i h = refl
-  run-rest (suc n) w i h =
-      rest-step (stopped_of w.machine.next) i w (run_of s inputs n (next_of s inputs w))
-      (λ l. run-rest n (next_of s inputs w) i l
-      ∙ next-rest w i (let u = run_up n (next_of s inputs w) in let a = next-count w in omega (arith, u, a, l))) h
+  run_rest zero w i h = refl
+  run_rest (suc n) w i h =
+      rest_step (stopped_of w.machine.next) i w (run_of s inputs n (next_of s inputs w))
+      (λ l. run_rest n (next_of s inputs w) i l
+      ∙ next_rest w i (let u = run_up n (next_of s inputs w) in let a = next_count w in omega (arith, u, a, l))) h

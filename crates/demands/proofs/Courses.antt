@@ -16,7 +16,7 @@ use Rattle.opcodes.specs.Instructions.{decode}
 use Rattle.opcodes.specs.Cycles.{cycles, code_of, count_of, defined_of, cycling}
 use Rattle.opcodes.specs.Kinds.{states_of, is_fetch}
 use Rattle.opcodes.specs.Totals.{total_of, later_shape, shape, listed_total}
-use Rattle.opcodes.proofs.Counts.{defined_byte, count-few}
+use Rattle.opcodes.proofs.Counts.{defined_byte, count_few}
 use Rattle.opcodes.proofs.Totals.{total_is, shape_is}
 use Rattle.machine.specs.Cycle.{after_of, cycles_of}
 use Rattle.effect.specs.declared.registers.Registers.{Registers}
@@ -64,21 +64,21 @@ unfolding prefixes_right prefix_right cycling
 all_prefixes = tt
 
 module _ (op : ℕ) (t : T (defined_of op)) where
-  prefix-false : (c : ℕ) → c < count_of op false → get_or (cycles (decode op) true) c 0 ≡ get_or (cycles (decode op) false) c 0
+  prefix_false : (c : ℕ) → c < count_of op false → get_or (cycles (decode op) true) c 0 ≡ get_or (cycles (decode op) false) c 0
   unfolding prefixes_right prefix_right
-  prefix-false c l =
+  prefix_false c l =
       eqb→eq _ _
       (subst (λ (x : Bool). T (not x || eqb (get_or (cycles (decode op) true) c 0) (get_or (cycles (decode op) false) c 0)))
       (lt-ltb c (count_of op false) l)
       (below (prefix_right op) 5 (below prefixes_right 256 all_prefixes op (defined_byte op t)) c
-      (omega (arith, count-few op t false))))
+      (omega (arith, count_few op t false))))
 
   prefix : (met : Bool) (c code : ℕ) (l : List ℕ) → drop c (cycles (decode op) met) ≡ code ∷ l
       → get_or (cycles (decode op) true) c 0 ≡ code
   unfolding count_of
   prefix true c code l e = drop_at (cycles (decode op) true) c code l e
   prefix false c code l e =
-      prefix-false c (drop_in (cycles (decode op) false) c code l e) ∙ drop_at (cycles (decode op) false) c code l e
+      prefix_false c (drop_in (cycles (decode op) false) c code l e) ∙ drop_at (cycles (decode op) false) c code l e
 
   -- the code of the cycle c of a course
   pub code_at : (f c code : ℕ) (l : List ℕ) → drop c (course_of op f) ≡ code ∷ l → code_of op (suc c) ≡ code

@@ -112,10 +112,10 @@ module _ (test : ℕ → Bool) where
   fails_step true n i f g e = let x = g e in (x.0, omega (arith, x.1), omega (arith, x.2), x.3)
   fails_step false n i f g e = (i, omega arith, omega arith, f refl)
 
-  fails-at : (n i : ℕ) → all test n i ≡ false → (j : ℕ) × (i ≤ j) × (j < i + n) × (test j ≡ false)
+  fails_at : (n i : ℕ) → all test n i ≡ false → (j : ℕ) × (i ≤ j) × (j < i + n) × (test j ≡ false)
   unfolding all
-  fails-at zero i e = absurd (false≢true (sym e))
-  fails-at (suc n) i e = fails_step (test i) n i (λ x. x) (fails-at n (i + 1)) e
+  fails_at zero i e = absurd (false≢true (sym e))
+  fails_at (suc n) i e = fails_step (test i) n i (λ x. x) (fails_at n (i + 1)) e
 
 -- so it passes exactly where the condition holds of none
 pub bars_all : (test : ℕ → Bool) (P : ℕ → Type 0) → ((i : ℕ) → Bars (test i) (P i)) → (n : ℕ)
@@ -123,5 +123,5 @@ pub bars_all : (test : ℕ → Bool) (P : ℕ → Type 0) → ((i : ℕ) → Bar
 bars_all test P d n =
     record {
       pass = λ e x. (d x.0).pass (all_at test n 0 x.0 e (omega arith) (omega (arith, x.1))) x.2;
-      fail = λ e. let y = fails-at test n 0 e in (y.0, omega (arith, y.2), (d y.0).fail y.3);
+      fail = λ e. let y = fails_at test n 0 e in (y.0, omega (arith, y.2), (d y.0).fail y.3);
     }

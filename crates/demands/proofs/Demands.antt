@@ -26,29 +26,29 @@ use Rattle.demands.specs.Costs.{Costs}
 use Rattle.demands.proofs.Steps.{run}
 use Rattle.demands.proofs.Bridge.{bridge}
 use Rattle.demands.proofs.Openings.{Start, acked}
-use Rattle.demands.proofs.Journeys.{now-begin}
-use Rattle.demands.proofs.Runs.{Ends, run_ends, ends-trip}
-use Rattle.demands.proofs.Once.{trip-one}
+use Rattle.demands.proofs.Journeys.{now_begin}
+use Rattle.demands.proofs.Runs.{Ends, run_ends, ends_trip}
+use Rattle.demands.proofs.Once.{trip_one}
 use Rattle.demands.proofs.Done.{trip_run}
 use Rattle.demands.proofs.Fresh.{beginning_start}
-use Rattle.demands.proofs.Calling.{reached-long, calls-reached}
+use Rattle.demands.proofs.Calling.{reached_long, calls_reached}
 
 -- a run of k states that ends where a leg begins
 costs_run : (E : Outside) (b : Board) (k : ℕ) → Start b → begins (run E k b).machine.next ≡ true → Costs E b k (run E k b)
 costs_run E b k s f =
-    let x : Ends E b (0 + k) (run E k b) = run_ends E k b b 0 0 (now-begin E b s) in
-    let (q, trip, e) = ends-trip E b (run E k b) (0 + k) x f in
+    let x : Ends E b (0 + k) (run E k b) = run_ends E k b b 0 0 (now_begin E b s) in
+    let (q, trip, e) = ends_trip E b (run E k b) (0 + k) x f in
     let n : k ≡ states_in q = omega arith in
     record {
       tallied = q;
       trip = trip;
       states = n;
-      only = λ p y t z. trip-one E b p q y (run E k b) t trip (z ∙ n);
+      only = λ p y t z. trip_one E b p q y (run E k b) t trip (z ∙ n);
     }
 
 pub instructions_done : InstructionsDone
 instructions_done s inputs b b' k r w f =
-    let l = reached-long s inputs b b' k r in
+    let l = reached_long s inputs b b' k r in
     let E = outside_of s inputs b.machine in
     let e : b' ≡ run E k b = l.board ∙ bridge s inputs k (world_on b []) l.time in
     subst (Costs E b k) (sym e)
@@ -59,7 +59,7 @@ forced_done s inputs b b' q t h =
     bridge s inputs (states_in q) (world_on b []) h ∙ trip_run (outside_of s inputs b.machine) b b' q t
 
 pub states_forced : StatesForced
-states_forced s inputs b b' n c w v = instructions_done s inputs b b' n (calls-reached s inputs b b' n c) w v.0
+states_forced s inputs b b' n c w v = instructions_done s inputs b b' n (calls_reached s inputs b b' n c) w v.0
 
 -- what comes after an instruction that leaves a
 executed_pick : (c : Bool) (a : Result) (x y : Machine) → x.regs ≡ with_inte false a.regs → Acknowledges x → y.regs ≡ a.regs

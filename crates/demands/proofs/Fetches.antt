@@ -44,9 +44,9 @@ fetch_asks Running x b b' k = refl
 fetch_asks Halted x b b' k = refl
 
 module _ (E : Outside) where
-  five-same : (d : Work) → use_cycle E fetch5 0 d ≡ use_cycle E fetch4 0 d
+  five_same : (d : Work) → use_cycle E fetch5 0 d ≡ use_cycle E fetch4 0 d
   unfolding reads_of raises_of writes_of kind_of risen_of first_pc_of address_of asked_of
-  five-same d =
+  five_same d =
       ap
       (λ (q : Request).
       record {
@@ -60,12 +60,12 @@ module _ (E : Outside) where
       (given_of fetch5 d.kept (risen_of fetch4 d.kept d.regs)) (given_of fetch4 d.kept (risen_of fetch4 d.kept d.regs))
       d.kept)
 
-  pub fetch-same : (code : ℕ) (d : Work) → T (is_fetch code) → (states_of code ≡ 4) ⊎ (states_of code ≡ 5)
+  pub fetch_same : (code : ℕ) (d : Work) → T (is_fetch code) → (states_of code ≡ 4) ⊎ (states_of code ≡ 5)
       → use_cycle E code 0 d ≡ use_cycle E fetch4 0 d
-  fetch-same code d f h =
-      ⊎_elim (λ e. ap (λ (x : ℕ). use_cycle E x 0 d) e) (λ e. ap (λ (x : ℕ). use_cycle E x 0 d) e ∙ five-same d) (fetch_code code f h)
+  fetch_same code d f h =
+      ⊎_elim (λ e. ap (λ (x : ℕ). use_cycle E x 0 d) e) (λ e. ap (λ (x : ℕ). use_cycle E x 0 d) e ∙ five_same d) (fetch_code code f h)
 
   -- the opcode kept after it
-  pub fetch-opcode : (d : Work) → (use_cycle E fetch4 0 d).kept.opcode ≡ opcode_of E d
+  pub fetch_opcode : (d : Work) → (use_cycle E fetch4 0 d).kept.opcode ≡ opcode_of E d
   unfolding reads_of writes_of kind_of keep_of
-  fetch-opcode d = refl
+  fetch_opcode d = refl

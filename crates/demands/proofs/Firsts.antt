@@ -15,9 +15,9 @@ and_false false = refl
 
 module _ (E : Outside) (d : Work) (c : ℕ) (t : Moment) where
   -- T1 of a fetch, and of a later cycle
-  pub fetch-first : step E (here d Fetch t) ≡ here d (Later 1 2) (did E t)
+  pub fetch_first : step E (here d Fetch t) ≡ here d (Later 1 2) (did E t)
   unfolding opening
-  fetch-first = refl
+  fetch_first = refl
 
   pub later_first : step E (here d (Later (suc c) 1) t) ≡ here d (Later (suc c) 2) (did E t)
   unfolding opening
@@ -25,25 +25,25 @@ module _ (E : Outside) (d : Work) (c : ℕ) (t : Moment) where
 
   -- T2
   module _ (code : ℕ) (e : code_of d.kept.opcode (suc c) ≡ code) where
-    pub second-on : waits_of code ≡ false → step E (here d (Later (suc c) 2) t) ≡ here (risen code d) (Later (suc c) 3) (did E t)
+    pub second_on : waits_of code ≡ false → step E (here d (Later (suc c) 2) t) ≡ here (risen code d) (Later (suc c) 3) (did E t)
     unfolding opening
-    second-on w = rw (e, w)
+    second_on w = rw (e, w)
 
-    pub second-up : down E t.clock ≡ false
+    pub second_up : down E t.clock ≡ false
         → step E (here d (Later (suc c) 2) t) ≡ here (risen code d) (Later (suc c) 3) (did E t)
     unfolding opening
-    second-up h = rw (e, h, and_false (waits_of code))
+    second_up h = rw (e, h, and_false (waits_of code))
 
-    pub second-down : waits_of code ≡ true → down E t.clock ≡ true
+    pub second_down : waits_of code ≡ true → down E t.clock ≡ true
         → step E (here d (Later (suc c) 2) t) ≡ here (risen code d) (Wait (suc c)) (did E t)
     unfolding opening
-    second-down w h = rw (e, w, h)
+    second_down w h = rw (e, w, h)
 
   -- a wait, with READY down and up
-  pub wait-on : down E t.clock ≡ true → step E (here d (Wait (suc c)) t) ≡ here d (Wait (suc c)) (did E t)
+  pub wait_on : down E t.clock ≡ true → step E (here d (Wait (suc c)) t) ≡ here d (Wait (suc c)) (did E t)
   unfolding opening
-  wait-on h = rw h
+  wait_on h = rw h
 
-  pub wait-off : down E t.clock ≡ false → step E (here d (Wait (suc c)) t) ≡ here d (Later (suc c) 3) (did E t)
+  pub wait_off : down E t.clock ≡ false → step E (here d (Wait (suc c)) t) ≡ here d (Later (suc c) 3) (did E t)
   unfolding opening
-  wait-off h = rw h
+  wait_off h = rw h

@@ -30,8 +30,8 @@ pub record Rest (E : Outside) (l : List ℕ) (t w h w' h' : ℕ) : Type 0 where
   pub waits : ℕ
   pub holds : ℕ
   pub forced : Forced E l t waits holds
-  pub all-waits : w' ≡ w + waits
-  pub all-holds : h' ≡ h + holds
+  pub all_waits : w' ≡ w + waits
+  pub all_holds : h' ≡ h + holds
 
 -- the instruction with the work d after its cycles is over at the moment t
 abbrev pub Ended : Work → Moment → Board

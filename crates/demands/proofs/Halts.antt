@@ -13,7 +13,7 @@ use Rattle.demands.proofs.Work.{Work, here}
 use Rattle.demands.specs.Manual.{Result}
 use Rattle.demands.specs.Legs.{afterwards}
 use Rattle.demands.proofs.Steps.{step, with, opening, ended_clock}
-use Rattle.demands.proofs.Lasts.{hold-off}
+use Rattle.demands.proofs.Lasts.{hold_off}
 
 -- the work in the holds after a halt state
 abbrev pub halted : Work → Work
@@ -23,18 +23,18 @@ abbrev pub kept_all : Work → Result
 kept_all d = record { regs = d.regs; memory = d.memory; outputs = d.outputs }
 
 module _ (E : Outside) (d : Work) (t : Moment) where
-  pub halt-on : up E t.clock ≡ true → step E (here d Halt t) ≡ here (halted d) (Hold 2) (did E t)
+  pub halt_on : up E t.clock ≡ true → step E (here d Halt t) ≡ here (halted d) (Hold 2) (did E t)
   unfolding opening halted_of hold_of
-  halt-on h = rw h
+  halt_on h = rw h
 
-  pub halt-off : up E t.clock ≡ false → step E (here d Halt t) ≡ afterwards 0x76 (kept_all d) (did E t)
+  pub halt_off : up E t.clock ≡ false → step E (here d Halt t) ≡ afterwards 0x76 (kept_all d) (did E t)
   unfolding opening halted_of hold_of follow_of ended_of takes_of acknowledge_of clear_of keep_of
-  halt-off h =
+  halt_off h =
       rw h
       (ap (with d)
       (ended_clock (t.clock + 1)
       (here (halted d) Halt (record { lines = (did E t).lines; clock = t.clock })).machine))
 
-  pub halt-held : up E t.clock ≡ false → step E (here (halted d) (Hold 2) t) ≡ afterwards 0x76 (kept_all d) (did E t)
+  pub halt_held : up E t.clock ≡ false → step E (here (halted d) (Hold 2) t) ≡ afterwards 0x76 (kept_all d) (did E t)
   unfolding follow_of ended_of takes_of acknowledge_of clear_of keep_of after_of cycles_of cycling
-  halt-held h = hold-off E (halted d) 1 t h
+  halt_held h = hold_off E (halted d) 1 t h

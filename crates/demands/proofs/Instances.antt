@@ -12,7 +12,7 @@ use Rattle.run.specs.declared.answer.Answer.TheVariants.{Done}
 use Rattle.run.specs.Run.{World, run_of}
 use Rattle.run.specs.Check.{check_of}
 use Rattle.run.specs.Outcome.{verdict_of, left_of, ran_in, answered_of, answer_of}
-use Rattle.run.proofs.Laws.{good_left, good-answer}
+use Rattle.run.proofs.Laws.{good_left, good_answer}
 use Rattle.machine.specs.declared.row.Row.{Row}
 use Rattle.opcodes.specs.Totals.{listed_total}
 use Rattle.demands.specs.Symbols.{condition}
@@ -57,7 +57,7 @@ awake = refl
 -- the call is answered with 0
 answers : answer_of world ports dip 6 ≡ Done (ran_in (run_of dip ports 6 world))
 unfolding answered_of
-answers = good-answer world ports dip 6 passes ∙ rw awake
+answers = good_answer world ports dip 6 passes ∙ rw awake
 
 counts : (run_of dip ports 6 world).states ≡ 6
 unfolding everything

@@ -31,15 +31,15 @@ two c = eqb-suc-suc (suc c) 0 ∙ eqb-suc-zero c
 
 -- a hold, with HOLD up and down
 module _ (E : Outside) (d : Work) (c : ℕ) (t : Moment) where
-  pub hold-on : up E t.clock ≡ true → step E (here d (Hold (suc c)) t) ≡ here d (Hold (suc c)) (did E t)
+  pub hold_on : up E t.clock ≡ true → step E (here d (Hold (suc c)) t) ≡ here d (Hold (suc c)) (did E t)
   unfolding opening hold_of
-  hold-on h = rw h
+  hold_on h = rw h
 
-  pub hold-off : up E t.clock ≡ false
+  pub hold_off : up E t.clock ≡ false
       → step E (here d (Hold (suc c)) t)
       ≡ with d (follow_of (next c d.kept.opcode d.regs) (here d (Hold (suc c)) (did E t)).machine)
   unfolding opening hold_of
-  hold-off h =
+  hold_off h =
       rw h
       (ap (with d) (follow_clock (t.clock + 1) (next c d.kept.opcode d.regs) (driven E (here d (Hold (suc c)) t).machine)))
 
@@ -72,65 +72,65 @@ module _ (E : Outside) (d : Work) (c : ℕ) (t : Moment) where
   unfolding end_of hold_of with_next with_regs
   end_on p h = rw h
 
-  pub end-off : (p : Position) → up E t.clock ≡ false
+  pub end_off : (p : Position) → up E t.clock ≡ false
       → Ending c (next c d.kept.opcode d.regs) p d (did E t) ≡ Done c d (did E t)
   unfolding end_of hold_of with_regs follow_of ended_of acknowledge_of clear_of takes_of with_next
-  end-off p h = rw h
+  end_off p h = rw h
 
   -- and the end of its holds
-  pub held-off : up E t.clock ≡ false → step E (here (ended c d) (Hold (suc c)) t) ≡ Done c d (did E t)
-  held-off h =
-      hold-off E (ended c d) c t h
+  pub held_off : up E t.clock ≡ false → step E (here (ended c d) (Hold (suc c)) t) ≡ Done c d (did E t)
+  held_off h =
+      hold_off E (ended c d) c t h
       ∙ ap (λ (n : ℕ). with d (follow_of n (here (ended c d) (Hold (suc c)) (did E t)).machine)) (next_end c d)
 
   module _ (code : ℕ) (e : code_of d.kept.opcode (suc (suc c)) ≡ code) where
-    pub third-end : eqb (states_of code) 3 ≡ true
+    pub third_end : eqb (states_of code) 3 ≡ true
         → step E (here d (Later (suc (suc c)) 3) t)
         ≡ Ending (suc c) (next (suc c) d.kept.opcode d.regs) (Later (suc (suc c)) 3) (took E code (suc c) d) (did E t)
     unfolding opening
-    third-end h =
+    third_end h =
         rw (e, two c, h)
         (ap (with (took E code (suc c) d))
         (end_clock (t.clock + 1) (suc (suc c)) (next (suc c) d.kept.opcode d.regs)
         (here (took E code (suc c) d) (Later (suc (suc c)) 3) (record { lines = (did E t).lines; clock = t.clock })).machine))
 
-    pub third-on : eqb (states_of code) 3 ≡ false
+    pub third_on : eqb (states_of code) 3 ≡ false
         → step E (here d (Later (suc (suc c)) 3) t) ≡ here (took E code (suc c) d) (Later (suc (suc c)) 4) (did E t)
     unfolding opening
-    third-on h = rw (e, two c, h)
+    third_on h = rw (e, two c, h)
 
   module _ (e : code_of d.kept.opcode 1 ≡ fetch4) where
-    pub third-fetch : defined_of (fetched E d) ≡ true → step E (here d (Later 1 3) t) ≡ here (took E fetch4 0 d) (Later 1 4) (did E t)
+    pub third_fetch : defined_of (fetched E d) ≡ true → step E (here d (Later 1 3) t) ≡ here (took E fetch4 0 d) (Later 1 4) (did E t)
     unfolding opening reads_of kind_of writes_of
-    third-fetch h = rw (e, h)
+    third_fetch h = rw (e, h)
 
-    pub third-stop : defined_of (fetched E d) ≡ false
+    pub third_stop : defined_of (fetched E d) ≡ false
         → step E (here d (Later 1 3) t)
         ≡ here
         (record { regs = d.regs; kept = kept_for None 0; memory = (took E fetch4 0 d).memory; outputs = (took E fetch4 0 d).outputs })
         Stop (did E t)
     unfolding opening clear_of
-    third-stop h = rw (e, h)
+    third_stop h = rw (e, h)
 
-  pub fourth-end : eqb (size c d.kept.opcode) 4 ≡ true
+  pub fourth_end : eqb (size c d.kept.opcode) 4 ≡ true
       → step E (here d (Later (suc c) 4) t)
       ≡ Ending c (next c d.kept.opcode d.regs) (Later (suc c) 4) d (did E t)
   unfolding opening
-  fourth-end h =
+  fourth_end h =
       rw h
       (ap (with d)
       (end_clock (t.clock + 1) (suc c) (next c d.kept.opcode d.regs)
       (here d (Later (suc c) 4) (record { lines = (did E t).lines; clock = t.clock })).machine))
 
-  pub fourth-on : eqb (size c d.kept.opcode) 4 ≡ false
+  pub fourth_on : eqb (size c d.kept.opcode) 4 ≡ false
       → step E (here d (Later (suc c) 4) t) ≡ here d (Later (suc c) 5) (did E t)
   unfolding opening
-  fourth-on h = rw h
+  fourth_on h = rw h
 
-  pub fifth-end :
+  pub fifth_end :
       step E (here d (Later (suc c) 5) t) ≡ Ending c (next c d.kept.opcode d.regs) (Later (suc c) 5) d (did E t)
   unfolding opening
-  fifth-end =
+  fifth_end =
       ap (with d)
       (end_clock (t.clock + 1) (suc c) (next c d.kept.opcode d.regs)
       (here d (Later (suc c) 5) (record { lines = (did E t).lines; clock = t.clock })).machine)

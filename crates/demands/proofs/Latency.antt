@@ -13,9 +13,9 @@ use Rattle.demands.specs.Board.{Board, moment_of}
 use Rattle.demands.specs.Own.{own}
 use Rattle.demands.specs.Bound.{sum_below, Neither, under_way}
 use Rattle.demands.proofs.Steps.{step, run}
-use Rattle.demands.proofs.Journeys.{Now, Ran, Stopped, now-step}
-use Rattle.demands.proofs.Runs.{now-awake, run_on, run-off, at-stop}
-use Rattle.demands.proofs.Facts.{now-facts}
+use Rattle.demands.proofs.Journeys.{Now, Ran, Stopped, now_step}
+use Rattle.demands.proofs.Runs.{now_awake, run_on, run_off, at_stop}
+use Rattle.demands.proofs.Facts.{now_facts}
 
 -- sums of equal numbers, and of none
 pub sum_same : (f g : ℕ → ℕ) (k : ℕ) → ((j : ℕ) → j < k → f j ≡ g j) → sum_below f k ≡ sum_below g k
@@ -57,15 +57,15 @@ module _ (E : Outside) where
       (λ j l. ap (λ (x : Board). own x.machine.next) (run_on E j b f)))
 
   -- none is done at a stop
-  pub own-stopped : (b : Board) (k : ℕ) → stopped_of b.machine.next ≡ true → own_from b k ≡ 0
-  own-stopped b k f =
+  pub own_stopped : (b : Board) (k : ℕ) → stopped_of b.machine.next ≡ true → own_from b k ≡ 0
+  own_stopped b k f =
       sum_none (λ j. own (run E j b).machine.next) k
-      (λ j. ap (λ (x : Board). own x.machine.next) (run-off E j b f) ∙ stop_own b.machine.next f)
+      (λ j. ap (λ (x : Board). own x.machine.next) (run_off E j b f) ∙ stop_own b.machine.next f)
 
   module _ (b₀ : Board) (n : Neither (under_way b₀)) (on : b₀.machine.regs.inte ≡ true) where
     -- one state on, inside the leg
-    next-moment : {b : Board} {i o o' : ℕ} (b' : Board) → Now E b₀ b i o → Now E b₀ b' (suc i) o' → moment_of b' ≡ did E (moment_of b)
-    next-moment b' x y = (now-facts E b₀ n y).moment ∙ ap (did E) (sym (now-facts E b₀ n x).moment)
+    next_moment : {b : Board} {i o o' : ℕ} (b' : Board) → Now E b₀ b i o → Now E b₀ b' (suc i) o' → moment_of b' ≡ did E (moment_of b)
+    next_moment b' x y = (now_facts E b₀ n y).moment ∙ ap (did E) (sym (now_facts E b₀ n x).moment)
 
     pub soon : (k i o : ℕ) (b : Board) → Now E b₀ b i o
         → (0 < k → E.int b.machine.clock b.machine.lines.int < 8)
@@ -73,13 +73,13 @@ module _ (E : Outside) where
         → ((j : ℕ) → 0 < j → j < k → Acknowledges (run E j b).machine → ⊥)
         → o + own_from b k ≤ 18
     unfolding run
-    soon zero i o b x up kept not = omega (arith, (now-facts E b₀ n x).few)
+    soon zero i o b x up kept not = omega (arith, (now_facts E b₀ n x).few)
     soon (suc k) i o b x up kept not =
-        let w = own_first b k (now-awake E b₀ x) in
+        let w = own_first b k (now_awake E b₀ x) in
         let now : E.int b.machine.clock b.machine.lines.int < 8 = up (omega arith) in
         ⊎_elim
         (λ (y : Now E b₀ (step E b) (suc i) (own b.machine.next + o)).
-        let m = next-moment (step E b) x y in
+        let m = next_moment (step E b) x y in
         let c : (step E b).machine.clock ≡ b.machine.clock + 1 = ap (λ (t : Moment). t.clock) m in
         let l : (step E b).machine.lines.int < 8 = subst (λ (t : Moment). t.lines.int < 8) (sym m) now in
         let r =
@@ -88,17 +88,17 @@ module _ (E : Outside) where
         (λ u v p q. kept u v (omega arith) (omega arith))
         (λ j p q a.
         not (suc j) (omega arith) (omega arith)
-        (subst (λ (z : Board). Acknowledges z.machine) (sym (run_on E j b (now-awake E b₀ x))) a)) in
+        (subst (λ (z : Board). Acknowledges z.machine) (sym (run_on E j b (now_awake E b₀ x))) a)) in
         omega arith)
         (⊎_elim
         (λ (y : Ran E b₀ (step E b) (suc i) (own b.machine.next + o)).
         over k (λ j. own (run E j (step E b)).machine.next) (own b.machine.next) o (own_from b (suc k)) w y.few
         (λ p.
         not 1 (omega arith) (omega arith)
-        (subst (λ (z : Board). Acknowledges z.machine) (sym (run_on E 0 b (now-awake E b₀ x)))
+        (subst (λ (z : Board). Acknowledges z.machine) (sym (run_on E 0 b (now_awake E b₀ x)))
         (y.takes n on
-        (subst (λ (t : Moment). E.int t.clock t.lines.int < 8) (now-facts E b₀ n x).moment now)))))
+        (subst (λ (t : Moment). E.int t.clock t.lines.int < 8) (now_facts E b₀ n x).moment now)))))
         (λ (y : Stopped E b₀ (step E b) (suc i) (own b.machine.next + o)).
-        let z = own-stopped (step E b) k (at-stop E b₀ y) in
+        let z = own_stopped (step E b) k (at_stop E b₀ y) in
         omega (arith, y.stops.owned)))
-        (now-step E b₀ x)
+        (now_step E b₀ x)

@@ -34,25 +34,25 @@ once_int true line value l l' e = ap (λ (x : ℕ). pick (ltb line 2) x value) e
 once_int false line value l l' e = e
 
 module _ (s : List ℕ) (t : ℕ) where
-  pub ready-only : (n : ℕ) (l l' : Lines) → l.ready ≡ l'.ready → (levels_at s n t l).ready ≡ (levels_at s n t l').ready
+  pub ready_only : (n : ℕ) (l l' : Lines) → l.ready ≡ l'.ready → (levels_at s n t l).ready ≡ (levels_at s n t l').ready
   unfolding levels_at once_of
-  ready-only zero l l' e = e
-  ready-only (suc n) l l' e =
-      once_ready (eqb (state_number_of s n) t) (line_of s n) (value_of s n) (levels_at s n t l) (levels_at s n t l') (ready-only n l l' e)
+  ready_only zero l l' e = e
+  ready_only (suc n) l l' e =
+      once_ready (eqb (state_number_of s n) t) (line_of s n) (value_of s n) (levels_at s n t l) (levels_at s n t l') (ready_only n l l' e)
 
-  pub hold-only : (n : ℕ) (l l' : Lines) → l.hold ≡ l'.hold → (levels_at s n t l).hold ≡ (levels_at s n t l').hold
+  pub hold_only : (n : ℕ) (l l' : Lines) → l.hold ≡ l'.hold → (levels_at s n t l).hold ≡ (levels_at s n t l').hold
   unfolding levels_at once_of
-  hold-only zero l l' e = e
-  hold-only (suc n) l l' e =
-      once_hold (eqb (state_number_of s n) t) (line_of s n) (value_of s n) (levels_at s n t l) (levels_at s n t l') (hold-only n l l' e)
+  hold_only zero l l' e = e
+  hold_only (suc n) l l' e =
+      once_hold (eqb (state_number_of s n) t) (line_of s n) (value_of s n) (levels_at s n t l) (levels_at s n t l') (hold_only n l l' e)
 
-  pub int-only : (n : ℕ) (l l' : Lines) → l.int ≡ l'.int → (levels_at s n t l).int ≡ (levels_at s n t l').int
+  pub int_only : (n : ℕ) (l l' : Lines) → l.int ≡ l'.int → (levels_at s n t l).int ≡ (levels_at s n t l').int
   unfolding levels_at once_of
-  int-only zero l l' e = e
-  int-only (suc n) l l' e =
-      once_int (eqb (state_number_of s n) t) (line_of s n) (value_of s n) (levels_at s n t l) (levels_at s n t l') (int-only n l l' e)
+  int_only zero l l' e = e
+  int_only (suc n) l l' e =
+      once_int (eqb (state_number_of s n) t) (line_of s n) (value_of s n) (levels_at s n t l) (levels_at s n t l') (int_only n l l' e)
 
 -- what the events of a state make of INT
 pub event_int : (s : List ℕ) (m : Machine) → (eventful_of s m).lines.int ≡ int_in s m.clock m.lines.int
 unfolding eventful_of with_lines int_in
-event_int s m = int-only s m.clock (length s / 6) m.lines (record { ready = 0; hold = 0; int = m.lines.int }) refl
+event_int s m = int_only s m.clock (length s / 6) m.lines (record { ready = 0; hold = 0; int = m.lines.int }) refl

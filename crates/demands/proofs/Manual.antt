@@ -26,7 +26,7 @@ use Rattle.demands.specs.Manual.{does, manual, restart}
 use Rattle.demands.specs.States.{manual_states, restart_states}
 use Rattle.demands.proofs.Digits.{eight, met_is}
 use Rattle.demands.proofs.Fits.{fit}
-use Rattle.demands.proofs.Opcode.{fresh, same_flags, same-opcode}
+use Rattle.demands.proofs.Opcode.{fresh, same_flags, same_opcode}
 use Rattle.demands.proofs.Agree.{finished, agree, working, effects}
 
 module _ (E : Outside) (r : Registers) (memory outputs : List ℕ) where
@@ -40,14 +40,14 @@ module _ (E : Outside) (r : Registers) (memory outputs : List ℕ) where
   close d p q = rw (p, q)
 
   -- the cycles of the opcode at PC, under the present flags, do what the manual says
-  pub cycles-do : T (defined_of op)
+  pub cycles_do : T (defined_of op)
       → result_of E (cycles (decode op) (met_of op r.f)) (fresh E r memory outputs) ≡ manual r memory E.inputs outputs op
   unfolding result_of manual
-  cycles-do t =
+  cycles_do t =
       let met = met_of op r.f in
       let start = fresh E r memory outputs in
       let shaped = shape_is op (defined_byte op t) (T→true (defined_of op) t) met in
-      close (uses E 0 (cycles (decode op) met) start) (same-opcode E r memory outputs (cycles (decode op) met) shaped)
+      close (uses E 0 (cycles (decode op) met) start) (same_opcode E r memory outputs (cycles (decode op) met) shaped)
       (same_flags E (cycles (decode op) met) 0 start)
       ∙ agree E r memory outputs (decode op) met (fit op t)
       ∙ ap (does r memory E.inputs outputs (decode op)) (sym (met_is op r.f))
@@ -71,11 +71,11 @@ module _ (E : Outside) (r : Registers) (memory outputs : List ℕ) (n : ℕ) whe
   restarting : Acknowledge → Bool → Work
   restarting ack t = uses E 0 (cycles (rst (n % 8)) t) (answering ack)
 
-  byte-read : (ack : Acknowledge) → is_none ack ≡ false → (t : Bool) → (restarting ack t).kept.opcode ≡ 0xC7 + 8 * (n % 8)
+  byte_read : (ack : Acknowledge) → is_none ack ≡ false → (t : Bool) → (restarting ack t).kept.opcode ≡ 0xC7 + 8 * (n % 8)
   unfolding restarting working restart_of
-  byte-read None q t = absurd (false≢true (sym q))
-  byte-read Running q t = refl
-  byte-read Halted q t = refl
+  byte_read None q t = absurd (false≢true (sym q))
+  byte_read Running q t = refl
+  byte_read Halted q t = refl
 
   pushed : (ack : Acknowledge) → is_none ack ≡ false → r.inte ≡ false → (t u : Bool)
       → finished E r memory outputs (rst (n % 8)) u (restarting ack t) ≡ restart r memory E.inputs outputs (n % 8)
@@ -88,13 +88,13 @@ module _ (E : Outside) (r : Registers) (memory outputs : List ℕ) (n : ℕ) whe
       → closing (restarting ack t)
       ≡ finished E r memory outputs (rst (n % 8)) (met_of (0xC7 + 8 * (n % 8)) (restarting ack t).regs.f) (restarting ack t)
   unfolding effect_of
-  ends ack q t = rw (byte-read ack q t, restart_byte_lem n)
+  ends ack q t = rw (byte_read ack q t, restart_byte_lem n)
 
   -- an acknowledge, from running or from halt, does what the manual says of a restart
-  pub restart-does : (ack : Acknowledge) → is_none ack ≡ false → r.inte ≡ false → (t : Bool)
+  pub restart_does : (ack : Acknowledge) → is_none ack ≡ false → r.inte ≡ false → (t : Bool)
       → result_of E (cycles (decode (0xC7 + 8 * (n % 8))) t) (answering ack) ≡ restart r memory E.inputs outputs (n % 8)
   unfolding result_of restarting
-  restart-does ack q off t = rw (restart_byte_lem n) (ends ack q t ∙ pushed ack q off t _)
+  restart_does ack q off t = rw (restart_byte_lem n) (ends ack q t ∙ pushed ack q off t _)
 
 -- in eleven states
 pub restart_takes : (n : ℕ) (t : Bool) → total_of (cycles (decode (0xC7 + 8 * (n % 8))) t) ≡ restart_states

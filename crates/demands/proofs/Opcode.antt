@@ -40,27 +40,27 @@ back a = omega arith
 
 module _ (E : Outside) where
   -- a later cycle does not change the opcode
-  pub use-opcode : (code c : ℕ) (d : Work) → (use_cycle E code (suc c) d).kept.opcode ≡ d.kept.opcode
-  use-opcode code c d =
+  pub use_opcode : (code c : ℕ) (d : Work) → (use_cycle E code (suc c) d).kept.opcode ≡ d.kept.opcode
+  use_opcode code c d =
       keep_later (reads_of code) c (byte_on (asking code (risen code d).regs d.kept) d.memory E.inputs) d.kept
 
   -- no cycle changes the flags or INTE
-  pub use-flags : (code c : ℕ) (d : Work) → (use_cycle E code c d).regs.f ≡ d.regs.f
+  pub use_flags : (code c : ℕ) (d : Work) → (use_cycle E code c d).regs.f ≡ d.regs.f
   unfolding risen_of
-  use-flags code c d = refl
+  use_flags code c d = refl
 
-  pub use-inte : (code c : ℕ) (d : Work) → (use_cycle E code c d).regs.inte ≡ d.regs.inte
+  pub use_inte : (code c : ℕ) (d : Work) → (use_cycle E code c d).regs.inte ≡ d.regs.inte
   unfolding risen_of
-  use-inte code c d = refl
+  use_inte code c d = refl
 
   -- so the cycles of a list
-  later-opcode : (cs : List ℕ) (c : ℕ) (d : Work) → (uses E (suc c) cs d).kept.opcode ≡ d.kept.opcode
-  later-opcode [] c d = refl
-  later-opcode (code ∷ cs) c d = later-opcode cs (suc c) (use_cycle E code (suc c) d) ∙ use-opcode code c d
+  later_opcode : (cs : List ℕ) (c : ℕ) (d : Work) → (uses E (suc c) cs d).kept.opcode ≡ d.kept.opcode
+  later_opcode [] c d = refl
+  later_opcode (code ∷ cs) c d = later_opcode cs (suc c) (use_cycle E code (suc c) d) ∙ use_opcode code c d
 
   pub same_flags : (cs : List ℕ) (c : ℕ) (d : Work) → (uses E c cs d).regs.f ≡ d.regs.f
   same_flags [] c d = refl
-  same_flags (code ∷ cs) c d = same_flags cs (suc c) (use_cycle E code c d) ∙ use-flags code c d
+  same_flags (code ∷ cs) c d = same_flags cs (suc c) (use_cycle E code c d) ∙ use_flags code c d
 
   -- nothing is kept yet
   module _ (r : Registers) (memory outputs : List ℕ) where
@@ -75,7 +75,7 @@ module _ (E : Outside) where
     unfolding kept_for keep_of kind_of reads_of address_of first_pc_of asked_of risen_of byte_on
     fetched code e = rw (raises code e, e, back r.pc)
 
-    pub same-opcode : (cs : List ℕ) → T (shape cs) → (uses E 0 cs fresh).kept.opcode ≡ get_or memory (r.pc % 65536) 0
-    same-opcode [] s = absurd s
-    same-opcode (code ∷ cs) s =
-        later-opcode cs 0 (use_cycle E code 0 fresh) ∙ fetched code (eqb→eq (code / 16) 1 (and_first (is_fetch code) _ _ _ s))
+    pub same_opcode : (cs : List ℕ) → T (shape cs) → (uses E 0 cs fresh).kept.opcode ≡ get_or memory (r.pc % 65536) 0
+    same_opcode [] s = absurd s
+    same_opcode (code ∷ cs) s =
+        later_opcode cs 0 (use_cycle E code 0 fresh) ∙ fetched code (eqb→eq (code / 16) 1 (and_first (is_fetch code) _ _ _ s))

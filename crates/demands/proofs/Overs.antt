@@ -19,8 +19,8 @@ use Rattle.demands.proofs.Stretches.{clock_pass, pass_add, row_one, waits_one}
 use Rattle.demands.proofs.Steps.{size}
 use Rattle.demands.proofs.Courses.{drop_next, code_at, Shaped, shape_parts, later_rest, course_shape}
 use Rattle.demands.proofs.Phases.{Over}
-use Rattle.demands.proofs.Fetches.{fetch_waits, fetch-same, fetch-opcode}
-use Rattle.demands.proofs.Opcode.{use-opcode, use-flags, use-inte}
+use Rattle.demands.proofs.Fetches.{fetch_waits, fetch_same, fetch_opcode}
+use Rattle.demands.proofs.Opcode.{use_opcode, use_flags, use_inte}
 use Rattle.demands.proofs.Going.{Rest, op, cs, after_fetch, Sofar}
 
 -- one cycle more stands in front of those that are left
@@ -42,8 +42,8 @@ less_forced E x l t u W H s _ _ a e r q (one {w = w} {h = h} W' H' a' r' f) =
       holds = h;
       forced =
           subst (λ (i : ℕ). Forced E l i w h) (let y : t + (states_of x + W' + H') ≡ u = omega arith in y) f;
-      all-waits = omega arith;
-      all-holds = omega arith;
+      all_waits = omega arith;
+      all_holds = omega arith;
     }
 
 -- the states of the first cycle
@@ -63,11 +63,11 @@ module _ (E : Outside) (d₀ : Work) (t₀ : Moment) where
       record {
         defined = d;
         place = e;
-        opcode = fetch-opcode E d₀;
-        flags = use-flags E fetch4 0 d₀;
-        inte = use-inte E fetch4 0 d₀;
+        opcode = fetch_opcode E d₀;
+        flags = use_flags E fetch4 0 d₀;
+        inte = use_inte E fetch4 0 d₀;
         work =
-            ap (uses E 1 l) (sym (fetch-same E x d₀ s.fetches s.first)) ∙ ap (λ (z : List ℕ). uses E 0 z d₀) (sym e);
+            ap (uses E 1 l) (sym (fetch_same E x d₀ s.fetches s.first)) ∙ ap (λ (z : List ℕ). uses E 0 z d₀) (sym e);
         moment = refl;
         owned = omega (arith, v.owned, n, total);
         later = s.others;
@@ -97,18 +97,18 @@ module _ (E : Outside) (d₀ : Work) (t₀ : Moment) where
         (drop_next (cs E d₀) c x (y ∷ l) s.place)
 
     pub size_is : size (suc c) (use_cycle E y (suc c) d).kept.opcode ≡ states_of y
-    size_is = ap (size (suc c)) (use-opcode E y c d) ∙ ap states_of code_is
+    size_is = ap (size (suc c)) (use_opcode E y c d) ∙ ap states_of code_is
 
     -- it is over
-    pub over-later : {b : Board} {i o : ℕ} → Over E (use_cycle E y (suc c) d) (suc c) y (states_of y) t b i o
+    pub over_later : {b : Board} {i o : ℕ} → Over E (use_cycle E y (suc c) d) (suc c) y (states_of y) t b i o
         → Sofar E d₀ t₀ (suc c) (use_cycle E y (suc c) d) (did_times E (suc i) t) (i₀ + suc i) (o₀ + (own b.machine.next + o)) y l
-    over-later {b} {i} {o} v =
+    over_later {b} {i} {o} v =
         record {
           defined = s.defined;
           place = drop_next (cs E d₀) c x (y ∷ l) s.place;
-          opcode = use-opcode E y c d ∙ s.opcode;
-          flags = use-flags E y (suc c) d ∙ s.flags;
-          inte = use-inte E y (suc c) d ∙ s.inte;
+          opcode = use_opcode E y c d ∙ s.opcode;
+          flags = use_flags E y (suc c) d ∙ s.flags;
+          inte = use_inte E y (suc c) d ∙ s.inte;
           work = s.work;
           moment = ap (did_times E (suc i)) s.moment ∙ sym (pass_add E i₀ (suc i) t₀);
           owned = omega (arith, s.owned, v.owned);
@@ -135,7 +135,7 @@ module _ (E : Outside) (d₀ : Work) (t₀ : Moment) where
                 waits = q.waits;
                 holds = q.holds;
                 forced = q.forced;
-                all-waits = omega (arith, p.all-waits, q.all-waits);
-                all-holds = omega (arith, p.all-holds, q.all-holds);
+                all_waits = omega (arith, p.all_waits, q.all_waits);
+                all_holds = omega (arith, p.all_holds, q.all_holds);
               };
         }

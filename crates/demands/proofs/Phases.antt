@@ -16,10 +16,10 @@ use Rattle.demands.specs.Rows.{Through, Unbroken, Waits}
 use Rattle.demands.proofs.Work.{Work, risen, here}
 use Rattle.demands.specs.Board.{Board}
 use Rattle.demands.specs.Own.{own}
-use Rattle.demands.proofs.Stretches.{bool, clock_pass, through-none, row_next}
+use Rattle.demands.proofs.Stretches.{bool, clock_pass, through_none, row_next}
 use Rattle.demands.proofs.Steps.{step, size, next, ended, Ending, Done}
-use Rattle.demands.proofs.Firsts.{second-on, second-up, second-down, wait-on, wait-off}
-use Rattle.demands.proofs.Lasts.{hold-on, end_on, end-off, held-off, fourth-end, fourth-on, fifth-end}
+use Rattle.demands.proofs.Firsts.{second_on, second_up, second_down, wait_on, wait_off}
+use Rattle.demands.proofs.Lasts.{hold_on, end_on, end_off, held_off, fourth_end, fourth_on, fifth_end}
 
 -- the cycle c with this code, begun at the moment t with the work d: after i states, o of them neither waits nor holds
 module _ (E : Outside) (d : Work) (c code : ℕ) (t : Moment) where
@@ -41,28 +41,28 @@ module _ (E : Outside) (d : Work) (c code : ℕ) (t : Moment) where
   moved : {b b' : Board} {i o : ℕ} → b ≡ b' → Early b' i o → Early b i o
   moved {b} {b'} {i} {o} e h = subst (λ (x : Board). Early x i o) (sym e) h
 
-  waits-as : (b : Bool) (W : ℕ) → waits_of code ≡ b → Waits b E (t.clock + 1) W → Waits (waits_of code) E (t.clock + 1) W
-  waits-as b W e h = subst (λ (x : Bool). Waits x E (t.clock + 1) W) (sym e) h
+  waits_as : (b : Bool) (W : ℕ) → waits_of code ≡ b → Waits b E (t.clock + 1) W → Waits (waits_of code) E (t.clock + 1) W
+  waits_as b W e h = subst (λ (x : Bool). Waits x E (t.clock + 1) W) (sym e) h
 
   -- one state on, up to T3
-  pub early-step : {b : Board} {i o : ℕ} → code_of d.kept.opcode (suc c) ≡ code → Early b i o
+  pub early_step : {b : Board} {i o : ℕ} → code_of d.kept.opcode (suc c) ≡ code → Early b i o
       → Early (step E b) (suc i) (own b.machine.next + o) ⊎ Third b i o
-  early-step e second =
+  early_step e second =
       ⊎_elim
       (λ (w : waits_of code ≡ true).
-      row_next (down E) (t.clock + 1) 0 (t.clock + 1) (through-none (down E) _) (omega arith)
-      (λ h r. inl (moved (second-down E d c (did_times E 1 t) code e w h) (waiting 0 2 refl w r)))
-      (λ h r. inl (moved (second-up E d c (did_times E 1 t) code e h) (third 0 2 refl (waits-as true 0 w r)))))
+      row_next (down E) (t.clock + 1) 0 (t.clock + 1) (through_none (down E) _) (omega arith)
+      (λ h r. inl (moved (second_down E d c (did_times E 1 t) code e w h) (waiting 0 2 refl w r)))
+      (λ h r. inl (moved (second_up E d c (did_times E 1 t) code e h) (third 0 2 refl (waits_as true 0 w r)))))
       (λ (w : waits_of code ≡ false).
-      inl (moved (second-on E d c (did_times E 1 t) code e w) (third 0 2 refl (waits-as false 0 w refl))))
+      inl (moved (second_on E d c (did_times E 1 t) code e w) (third 0 2 refl (waits_as false 0 w refl))))
       (bool (waits_of code))
-  early-step e (waiting j i q w h) =
+  early_step e (waiting j i q w h) =
       row_next (down E) (t.clock + 1) (suc j) (did_times E i t).clock h (clock_pass E i t ∙ omega arith)
-      (λ p r. inl (moved (wait-on E (risen code d) c (did_times E i t) p) (waiting (suc j) (suc i) (omega arith) w r)))
+      (λ p r. inl (moved (wait_on E (risen code d) c (did_times E i t) p) (waiting (suc j) (suc i) (omega arith) w r)))
       (λ p r.
       inl
-      (moved (wait-off E (risen code d) c (did_times E i t) p) (third (suc j) (suc i) (omega arith) (waits-as true (suc j) w r))))
-  early-step e (third W i q h) = inr (record { W = W; count = q; owned = refl; waits = h; board = refl })
+      (moved (wait_off E (risen code d) c (did_times E i t) p) (third (suc j) (suc i) (omega arith) (waits_as true (suc j) w r))))
+  early_step e (third W i q h) = inr (record { W = W; count = q; owned = refl; waits = h; board = refl })
 
 -- the same from T4 on, where the cycle has s states, and u is the work after T3
 module _ (E : Outside) (u : Work) (c code s : ℕ) (t : Moment) where
@@ -96,11 +96,11 @@ module _ (E : Outside) (u : Work) (c code s : ℕ) (t : Moment) where
       (subst (λ (x : ℕ). Late b' (suc i) x) (sym q) h))
 
   -- the last state of the cycle, or a hold after it
-  hold-step : (b : Board) (i o W j : ℕ) → suc i ≡ s + W + j → 0 < s → own b.machine.next + o ≡ s
+  hold_step : (b : Board) (i o W j : ℕ) → suc i ≡ s + W + j → 0 < s → own b.machine.next + o ≡ s
       → Waits (waits_of code) E (t.clock + 1) W → Through (up E) (t.clock + (s + W - 1)) j
       → (up E (did_times E i t).clock ≡ true → step E b ≡ here (ended c u) (Hold (suc c)) (did_times E (suc i) t))
       → (up E (did_times E i t).clock ≡ false → step E b ≡ Done c u (did_times E (suc i) t)) → Onward b i o
-  hold-step b i o W j q z n w h on off =
+  hold_step b i o W j q z n w h on off =
       row_next (up E) (t.clock + (s + W - 1)) j (did_times E i t).clock h (clock_pass E i t ∙ omega arith)
       (λ p r. turned _ (on p) n (holding W j (suc i) z q w r))
       (λ p r. inr (record { W = W; H = j; waits = w; holds = r; count = q; owned = n; board = off p }))
@@ -109,19 +109,19 @@ module _ (E : Outside) (u : Work) (c code s : ℕ) (t : Moment) where
       → step E b ≡ Ending c (next c u.kept.opcode u.regs) p u (did E (did_times E i t)) → suc i ≡ s + W
       → 0 < s → own b.machine.next + o ≡ s → Waits (waits_of code) E (t.clock + 1) W → Onward b i o
   last_step b i o W p e q z n w =
-      hold-step b i o W 0 (omega arith) z n w (through-none (up E) _) (λ h. e ∙ end_on E u c (did_times E i t) p h)
-      (λ h. e ∙ end-off E u c (did_times E i t) p h)
+      hold_step b i o W 0 (omega arith) z n w (through_none (up E) _) (λ h. e ∙ end_on E u c (did_times E i t) p h)
+      (λ h. e ∙ end_off E u c (did_times E i t) p h)
 
-  pub late-step : {b : Board} {i o : ℕ} → size c u.kept.opcode ≡ s → Late b i o → Onward b i o
-  late-step e (fourth W i q w (inl h)) =
+  pub late_step : {b : Board} {i o : ℕ} → size c u.kept.opcode ≡ s → Late b i o → Onward b i o
+  late_step e (fourth W i q w (inl h)) =
       last_step _ i 3 W (Later (suc c) 4)
-      (fourth-end E u c (did_times E i t) (ap (λ (n : ℕ). eqb n 4) (e ∙ h)))
+      (fourth_end E u c (did_times E i t) (ap (λ (n : ℕ). eqb n 4) (e ∙ h)))
       (omega arith) (omega arith) (omega arith) w
-  late-step e (fourth W i q w (inr h)) =
-      turned (here u (Later (suc c) 5) (did_times E (suc i) t)) (fourth-on E u c (did_times E i t) (ap (λ (n : ℕ). eqb n 4) (e ∙ h))) refl
+  late_step e (fourth W i q w (inr h)) =
+      turned (here u (Later (suc c) 5) (did_times E (suc i) t)) (fourth_on E u c (did_times E i t) (ap (λ (n : ℕ). eqb n 4) (e ∙ h))) refl
       (fifth W (suc i) (omega arith) w h)
-  late-step e (fifth W i q w h) =
-      last_step _ i 4 W (Later (suc c) 5) (fifth-end E u c (did_times E i t)) (omega arith) (omega arith) (omega arith) w
-  late-step e (holding W j i z q w h) =
-      hold-step _ i s W (suc j) (omega arith) z (zero-add s) w h (λ p. hold-on E (ended c u) c (did_times E i t) p)
-      (λ p. held-off E u c (did_times E i t) p)
+  late_step e (fifth W i q w h) =
+      last_step _ i 4 W (Later (suc c) 5) (fifth_end E u c (did_times E i t)) (omega arith) (omega arith) (omega arith) w
+  late_step e (holding W j i z q w h) =
+      hold_step _ i s W (suc j) (omega arith) z (zero-add s) w h (λ p. hold_on E (ended c u) c (did_times E i t) p)
+      (λ p. held_off E u c (did_times E i t) p)

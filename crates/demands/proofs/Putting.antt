@@ -43,8 +43,8 @@ module _ (l : List ℕ) (at : ℕ) (r : Row) where
   unfolding put_row rest
   put_is = refl
 
-  put-before : (i : ℕ) → i < at → get_or (put_row l at r) i 0 ≡ get_or l i 0
-  put-before i h =
+  put_before : (i : ℕ) → i < at → get_or (put_row l at r) i 0 ≡ get_or l i 0
+  put_before i h =
       ap (λ (x : List ℕ). get_or x i 0) put_is
       ∙ written_before (rest r) (set l at r.state) at 1 i (omega arith)
       ∙ get_or-set_other l at i r.state 0 (λ e. omega arith)
@@ -55,16 +55,16 @@ module _ (l : List ℕ) (at : ℕ) (r : Row) where
       ∙ written_before (rest r) (set l at r.state) at 1 at (omega arith)
       ∙ get_or-set_same l at r.state 0 (omega arith)
 
-  put-at : (j : ℕ) → j < 7 → at + 8 ≤ length l → get_or (put_row l at r) (at + (1 + j)) 0 ≡ get_or (rest r) j 0
+  put_at_lem : (j : ℕ) → j < 7 → at + 8 ≤ length l → get_or (put_row l at r) (at + (1 + j)) 0 ≡ get_or (rest r) j 0
   unfolding rest
-  put-at j h k =
+  put_at_lem j h k =
       ap (λ (x : List ℕ). get_or x (at + (1 + j)) 0) put_is
       ∙ written_at (rest r) (set l at r.state) at 1 j (omega arith)
       (let e = length-set l at r.state in omega arith)
 
-  pub put-length : length (put_row l at r) ≡ length l
+  pub put_length : length (put_row l at r) ≡ length l
   unfolding put_row
-  put-length = simp length-set
+  put_length = simp length-set
 
 -- row k of the trace, and a row before it
 pub row_put : (l : List ℕ) (k : ℕ) (r : Row) → 8 * k + 8 ≤ length l → row_in (put_row l (8 * k) r) k ≡ r
@@ -73,25 +73,25 @@ row_put l k r h =
     λ i.
     record {
       state = put_first l (8 * k) r h i;
-      kind = put-at l (8 * k) r 0 (omega arith) h i;
-      low = put-at l (8 * k) r 1 (omega arith) h i;
-      high = put-at l (8 * k) r 2 (omega arith) h i;
-      byte = put-at l (8 * k) r 3 (omega arith) h i;
-      status = put-at l (8 * k) r 4 (omega arith) h i;
-      cycle = put-at l (8 * k) r 5 (omega arith) h i;
-      levels = put-at l (8 * k) r 6 (omega arith) h i;
+      kind = put_at_lem l (8 * k) r 0 (omega arith) h i;
+      low = put_at_lem l (8 * k) r 1 (omega arith) h i;
+      high = put_at_lem l (8 * k) r 2 (omega arith) h i;
+      byte = put_at_lem l (8 * k) r 3 (omega arith) h i;
+      status = put_at_lem l (8 * k) r 4 (omega arith) h i;
+      cycle = put_at_lem l (8 * k) r 5 (omega arith) h i;
+      levels = put_at_lem l (8 * k) r 6 (omega arith) h i;
     }
 
 pub row_kept : (l : List ℕ) (j k : ℕ) (r : Row) → j < k → row_in (put_row l (8 * k) r) j ≡ row_in l j
 row_kept l j k r h =
     λ i.
     record {
-      state = put-before l (8 * k) r (8 * j) (omega arith) i;
-      kind = put-before l (8 * k) r (8 * j + 1) (omega arith) i;
-      low = put-before l (8 * k) r (8 * j + 2) (omega arith) i;
-      high = put-before l (8 * k) r (8 * j + 3) (omega arith) i;
-      byte = put-before l (8 * k) r (8 * j + 4) (omega arith) i;
-      status = put-before l (8 * k) r (8 * j + 5) (omega arith) i;
-      cycle = put-before l (8 * k) r (8 * j + 6) (omega arith) i;
-      levels = put-before l (8 * k) r (8 * j + 7) (omega arith) i;
+      state = put_before l (8 * k) r (8 * j) (omega arith) i;
+      kind = put_before l (8 * k) r (8 * j + 1) (omega arith) i;
+      low = put_before l (8 * k) r (8 * j + 2) (omega arith) i;
+      high = put_before l (8 * k) r (8 * j + 3) (omega arith) i;
+      byte = put_before l (8 * k) r (8 * j + 4) (omega arith) i;
+      status = put_before l (8 * k) r (8 * j + 5) (omega arith) i;
+      cycle = put_before l (8 * k) r (8 * j + 6) (omega arith) i;
+      levels = put_before l (8 * k) r (8 * j + 7) (omega arith) i;
     }

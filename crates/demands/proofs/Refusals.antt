@@ -18,13 +18,13 @@ use Rattle.run.specs.declared.answer.Answer.TheVariants.{Done, Stopped, Refused}
 use Rattle.run.specs.Answer.{refusal_number}
 use Rattle.run.specs.Run.{World, run_of}
 use Rattle.run.specs.Outcome.{verdict_of, left_by, left_of, ran_in, answered_of, answer_by, answer_of}
-use Rattle.run.proofs.Laws.{run-stopped}
+use Rattle.run.proofs.Laws.{run_stopped}
 use Rattle.run.proofs.Calls.{run_unique}
 use Rattle.demands.specs.IllFormed.{Not}
 use Rattle.demands.specs.Refusals.{Call, Given, First, Unchanged, Taken, Allowed, Refuses}
-use Rattle.demands.proofs.Counted.{stop_is, goes_is, run-count, run-rest}
-use Rattle.demands.proofs.Stops.{run-stops}
-use Rattle.demands.proofs.Verdicts.{same_number, number_range, Sound, before, verdict-sound}
+use Rattle.demands.proofs.Counted.{stop_is, goes_is, run_count, run_rest}
+use Rattle.demands.proofs.Stops.{run_stops}
+use Rattle.demands.proofs.Verdicts.{same_number, number_range, Sound, before, verdict_sound}
 
 -- a refusal's number is neither 0 nor 10
 not_zero : {A : Type 0} (q : Refusal) → refusal_number q ≡ 0 → A
@@ -35,8 +35,8 @@ not_ten q e = let r = (number_range q).1 in absurd (let no : ⊥ = omega (arith,
 
 module _ (c : Call) where
   -- the first condition that holds is one
-  one-first : (p q : Refusal) → First c p → First c q → refusal_number p ≡ refusal_number q
-  one-first p q f g =
+  one_first : (p q : Refusal) → First c p → First c q → refusal_number p ≡ refusal_number q
+  one_first p q f g =
       ⊎_elim (λ l. absurd (g.1 p l f.0))
       (λ l. ⊎_elim (λ e. sym e) (λ m. absurd (f.1 q m g.0)) (eq-or-lt_of_le l))
       (lt_or_le (refusal_number p) (refusal_number q))
@@ -45,7 +45,7 @@ module _ (c : Call) where
   refusing : (q : Refusal) → First c q → Taken c (Refused q (ran_in (before c))) c.memory c.outputs c.trace
   refusing q f =
       record {
-        refused = λ p. (λ e. subst (First c) (same_number q p e) f, λ g. one-first q p f g);
+        refused = λ p. (λ e. subst (First c) (same_number q p e) f, λ g. one_first q p f g);
         unchanged = λ p e. record { machine = refl; states = refl; memory = refl; outputs = refl; trace = refl };
         accepted = (⊎_elim (not_zero q) (not_ten q), λ none. absurd (none q f.0));
         done = not_zero q;
@@ -62,7 +62,7 @@ module _ (c : Call) where
   -- a machine that has stopped does nothing
   idle : c.machine.next ≡ Stop → after ≡ before c
   unfolding stopped_of
-  idle s = run-stopped c.schedule c.inputs c.states (before c) (rw s refl)
+  idle s = run_stopped c.schedule c.inputs c.states (before c) (rw s refl)
 
   same : after ≡ before c → Unchanged c (Stopped (ran_in after)) after.memory after.outputs after.trace
   same e =
@@ -91,21 +91,21 @@ module _ (c : Call) where
         stops =
             λ e h.
             let g = goes_is c.machine.next h in
-            let x = run-stops c.schedule c.inputs c.states (before c) g b in
+            let x = run_stops c.schedule c.inputs c.states (before c) g b in
             (x.0, omega (arith, x.1), x.2.0, x.2.1);
         again = λ s n. (refl, same (idle s));
-        rest = λ i h. run-rest c.schedule c.inputs c.states (before c) i h;
+        rest = λ i h. run_rest c.schedule c.inputs c.states (before c) i h;
       }
   going false b none =
       record {
         refused = λ q. (λ e. not_zero q (sym e), λ f. absurd (none q f.0));
         unchanged = λ q e. not_zero q (sym e);
         accepted = (λ e. none, λ n. inl refl);
-        done = λ e. let x = run-count c.schedule c.inputs c.states (before c) b in omega (arith, x);
+        done = λ e. let x = run_count c.schedule c.inputs c.states (before c) b in omega (arith, x);
         stopped = λ e. absurd (let no : ⊥ = omega (arith, e) in no);
         stops = λ e h. absurd (let no : ⊥ = omega (arith, e) in no);
         again = λ s n. absurd (false≢true (sym b ∙ still s));
-        rest = λ i h. run-rest c.schedule c.inputs c.states (before c) i h;
+        rest = λ i h. run_rest c.schedule c.inputs c.states (before c) i h;
       }
 
   by_verdict : (v : Verdict) → Sound c v
@@ -119,7 +119,7 @@ module _ (c : Call) where
   unfolding answer_of left_of
   allowed r x o l p =
       rw (p.answer, p.memory, p.outputs, p.trace)
-      (by_verdict (verdict_of (before c) c.inputs c.schedule c.states) (verdict-sound c))
+      (by_verdict (verdict_of (before c) c.inputs c.schedule c.states) (verdict_sound c))
 
 pub run_refuses : Refuses
 run_refuses =

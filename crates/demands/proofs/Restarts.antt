@@ -25,22 +25,22 @@ unfolding elevens eleven cycling listed_total
 all_eleven = tt
 
 module _ (n : ℕ) (l : n < 8) where
-  eleven-is : (met : Bool) → T (eleven n met)
+  eleven_is : (met : Bool) → T (eleven n met)
   unfolding elevens
-  eleven-is met = either (eleven n) (below elevens 8 all_eleven n l) met
+  eleven_is met = either (eleven n) (below elevens 8 all_eleven n l) met
 
-  pub restart-defined : defined_of (restart_byte n) ≡ true
+  pub restart_defined : defined_of (restart_byte n) ≡ true
   unfolding eleven
-  restart-defined =
+  restart_defined =
       T→true (defined_of (restart_byte n))
-      (and_left (defined_of (restart_byte n)) (eqb (listed_total (decode (restart_byte n)) true) 11) (eleven-is true))
+      (and_left (defined_of (restart_byte n)) (eqb (listed_total (decode (restart_byte n)) true) 11) (eleven_is true))
 
-  pub restart-total : (met : Bool) → listed_total (decode (restart_byte n)) met ≡ 11
+  pub restart_total : (met : Bool) → listed_total (decode (restart_byte n)) met ≡ 11
   unfolding eleven
-  restart-total met =
+  restart_total met =
       eqb→eq (listed_total (decode (restart_byte n)) met) 11
-      (and_right (defined_of (restart_byte n)) (eqb (listed_total (decode (restart_byte n)) met) 11) (eleven-is met))
+      (and_right (defined_of (restart_byte n)) (eqb (listed_total (decode (restart_byte n)) met) 11) (eleven_is met))
 
   -- and is neither EI nor DI
-  pub restart-neither : Neither (restart_byte n)
-  restart-neither = (ne_eqb (restart_byte n) 0xFB (λ e. omega arith), ne_eqb (restart_byte n) 0xF3 (λ e. omega arith))
+  pub restart_neither : Neither (restart_byte n)
+  restart_neither = (ne_eqb (restart_byte n) 0xFB (λ e. omega arith), ne_eqb (restart_byte n) 0xF3 (λ e. omega arith))

@@ -26,7 +26,7 @@ use Rattle.demands.specs.Manual.{Result}
 use Rattle.demands.specs.States.{manual_states}
 use Rattle.demands.specs.Legs.{afterwards, opcode_at, manual_at, states_at, course_at, restart_byte, restart_at}
 use Rattle.demands.proofs.Digits.{met_is}
-use Rattle.demands.proofs.Manual.{cycles-do, restart-does}
+use Rattle.demands.proofs.Manual.{cycles_do, restart_does}
 use Rattle.demands.proofs.Courses.{course_total}
 use Rattle.demands.proofs.Going.{Finished}
 use Rattle.demands.proofs.Openings.{Start, ended_as, after_start, after_takes}
@@ -40,11 +40,11 @@ module _ (E : Outside) (b₀ : Board) where
   done_at op n = afterwards op (result_of E (course_at b₀ op) (work_of b₀)) (did_times E n (moment_of b₀))
 
   -- an instruction is over
-  pub over-as : (op : ℕ) {b : Board} {i o : ℕ} → opcode_of E (work_of b₀) ≡ op → Finished E (work_of b₀) (moment_of b₀) b i o
+  pub over_as : (op : ℕ) {b : Board} {i o : ℕ} → opcode_of E (work_of b₀) ≡ op → Finished E (work_of b₀) (moment_of b₀) b i o
       → (w : ℕ) × (h : ℕ) × Forced E (course_at b₀ op) b₀.machine.clock w h
       × (i ≡ total_at op + w + h) × (o ≡ total_at op) × (b ≡ done_at op (total_at op + w + h))
   unfolding result_of
-  over-as op {b} {i} {o} e f =
+  over_as op {b} {i} {o} e f =
       let total : total_of (course_at b₀ (opcode_of E (work_of b₀))) ≡ total_at op =
       course_total (opcode_of E (work_of b₀)) b₀.machine.regs.f f.defined ∙ ap total_at e in
       let n : i ≡ total_at op + f.w + f.h = omega (arith, f.count, total) in (
@@ -61,26 +61,26 @@ module _ (E : Outside) (b₀ : Board) where
       )
 
   -- it has done what the manual says, in the manual's states
-  pub manual-states : total_at (opcode_at b₀) ≡ states_at b₀
+  pub manual_states_lem : total_at (opcode_at b₀) ≡ states_at b₀
   unfolding manual_states
-  manual-states = ap (listed_total (decode (opcode_at b₀))) (sym (met_is (opcode_at b₀) b₀.machine.regs.f))
+  manual_states_lem = ap (listed_total (decode (opcode_at b₀))) (sym (met_is (opcode_at b₀) b₀.machine.regs.f))
 
-  pub manual-done : b₀.machine.kept ≡ kept_for None 0 → defined_of (opcode_at b₀) ≡ true
+  pub manual_done : b₀.machine.kept ≡ kept_for None 0 → defined_of (opcode_at b₀) ≡ true
       → result_of E (course_at b₀ (opcode_at b₀)) (work_of b₀) ≡ manual_at E b₀
   unfolding course_of
-  manual-done k d =
+  manual_done k d =
       ap
       (λ (x : Kept).
       result_of E (course_at b₀ (opcode_at b₀))
       (record { regs = b₀.machine.regs; kept = x; memory = b₀.memory; outputs = b₀.outputs }))
       k
-      ∙ cycles-do E b₀.machine.regs b₀.memory b₀.outputs (true→T (defined_of (opcode_at b₀)) d)
+      ∙ cycles_do E b₀.machine.regs b₀.memory b₀.outputs (true→T (defined_of (opcode_at b₀)) d)
 
   -- and so has an acknowledged restart
-  pub restart-done : (a : Acknowledge) (n : ℕ) → is_none a ≡ false → n < 8 → b₀.machine.regs.inte ≡ false
+  pub restart_done : (a : Acknowledge) (n : ℕ) → is_none a ≡ false → n < 8 → b₀.machine.regs.inte ≡ false
       → b₀.machine.kept ≡ kept_for a n → result_of E (course_at b₀ (restart_byte n)) (work_of b₀) ≡ restart_at E b₀ n
   unfolding course_of
-  restart-done a n z l off k =
+  restart_done a n z l off k =
       let q : n % 8 ≡ n = omega arith in
       let met : ℕ → Bool = λ m. met_of (restart_byte m) b₀.machine.regs.f in
       ap
@@ -93,26 +93,26 @@ module _ (E : Outside) (b₀ : Board) where
       result_of E (cycles (decode (restart_byte m)) (met m))
       (record { regs = b₀.machine.regs; kept = kept_for a n; memory = b₀.memory; outputs = b₀.outputs })
       ≡ restart_at E b₀ m)
-      q (restart-does E b₀.machine.regs b₀.memory b₀.outputs n a z off (met (n % 8)))
+      q (restart_does E b₀.machine.regs b₀.memory b₀.outputs n a z off (met (n % 8)))
 
   -- a leg begins there, with an acknowledge where INTE is on, INT up, and the opcode not EI
-  pub start-done : (op n : ℕ) (a : Result) {b : Board} → b ≡ afterwards op a (did_times E n (moment_of b₀)) → Start b
-  start-done op n a e = subst Start (sym e) (after_start op a (did_times E n (moment_of b₀)))
+  pub start_done : (op n : ℕ) (a : Result) {b : Board} → b ≡ afterwards op a (did_times E n (moment_of b₀)) → Start b
+  start_done op n a e = subst Start (sym e) (after_start op a (did_times E n (moment_of b₀)))
 
-  pub takes-done : (op n : ℕ) (a : Result) {b : Board} → b ≡ afterwards op a (did_times E n (moment_of b₀)) → eqb op 0xFB ≡ false
+  pub takes_done : (op n : ℕ) (a : Result) {b : Board} → b ≡ afterwards op a (did_times E n (moment_of b₀)) → eqb op 0xFB ≡ false
       → a.regs.inte ≡ true → (did_times E n (moment_of b₀)).lines.int < 8 → Acknowledges b.machine
-  takes-done op n a e z t u =
+  takes_done op n a e z t u =
       subst (λ (x : Board). Acknowledges x.machine) (sym e) (after_takes op a (did_times E n (moment_of b₀)) z t u)
 
-  pub under-fetch : b₀.machine.next ≡ Fetch → b₀.machine.kept ≡ kept_for None 0 → under_way b₀ ≡ opcode_at b₀
+  pub under_fetch : b₀.machine.next ≡ Fetch → b₀.machine.kept ≡ kept_for None 0 → under_way b₀ ≡ opcode_at b₀
   unfolding kept_for
-  under-fetch e k = rw (e, k)
+  under_fetch e k = rw (e, k)
 
   -- an interrupt is taken at the end of an instruction that is neither EI nor DI
-  pub finish-takes : {b : Board} {i o : ℕ} → Finished E (work_of b₀) (moment_of b₀) b i o → Neither (opcode_of E (work_of b₀))
+  pub finish_takes : {b : Board} {i o : ℕ} → Finished E (work_of b₀) (moment_of b₀) b i o → Neither (opcode_of E (work_of b₀))
       → b₀.machine.regs.inte ≡ true → (did_times E i (moment_of b₀)).lines.int < 8 → Acknowledges b.machine
-  finish-takes {b} {i} f n t u =
+  finish_takes {b} {i} f n t u =
       let cs = course_of (opcode_of E (work_of b₀)) b₀.machine.regs.f in
       let d = uses E 0 cs (work_of b₀) in
-      takes-done (opcode_of E (work_of b₀)) i (closing d)
+      takes_done (opcode_of E (work_of b₀)) i (closing d)
       (f.board ∙ ended_as d (opcode_of E (work_of b₀)) (did_times E i (moment_of b₀)) f.opcode) n.0 (f.inte n ∙ t) u

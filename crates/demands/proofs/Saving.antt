@@ -14,14 +14,14 @@ use Rattle.saved.specs.Outcome.{filled_by, saving_by, loading_by}
 use Rattle.saved.proofs.Unique.{save_unique, load_unique}
 use Rattle.demands.specs.Saving.{FirstOf, save_tests, load_tests, SaveGiven, LoadGiven}
 use Rattle.demands.specs.Saving.{SaveTaken, LoadTaken, SavesOrRefuses}
-use Rattle.demands.proofs.Tested.{same_number, not_zero, Sound, one-first, not-both, save_sound, load_sound}
+use Rattle.demands.proofs.Tested.{same_number, not_zero, Sound, one_first, not_both, save_sound, load_sound}
 
 -- by the verdict
 save_by : (m : Machine) (x o z : List ℕ) (v : Verdict) → Sound (SaveGiven m x o z) save_tests v
     → SaveTaken m x o z (saving_by v) (filled_by v (saved_of m o x) z)
 save_by m x o z verdict.Good n =
     record {
-      refused = λ q. (λ e. not_zero q (sym e), λ f. absurd (not-both (SaveGiven m x o z) save_tests q f n));
+      refused = λ q. (λ e. not_zero q (sym e), λ f. absurd (not_both (SaveGiven m x o z) save_tests q f n));
       unchanged = λ q e. not_zero q (sym e);
       accepted = (λ e. n, λ e. refl);
     }
@@ -29,17 +29,17 @@ save_by m x o z (verdict.Refused p) f =
     record {
       refused = λ q. (
         λ e. subst (FirstOf (SaveGiven m x o z) save_tests) (same_number p q e) f,
-        λ g. ap refusal_number (one-first (SaveGiven m x o z) save_tests p q f g),
+        λ g. ap refusal_number (one_first (SaveGiven m x o z) save_tests p q f g),
       );
       unchanged = λ q e. refl;
-      accepted = (not_zero p, λ n. absurd (not-both (SaveGiven m x o z) save_tests p f n));
+      accepted = (not_zero p, λ n. absurd (not_both (SaveGiven m x o z) save_tests p f n));
     }
 
 load_by : (m : Machine) (s x o : List ℕ) (v : Verdict) → Sound (LoadGiven s x o) load_tests v
     → LoadTaken m s x o (loading_by v (machine_in s) m) (filled_by v (memory_in s) x) (filled_by v (ports_in s) o)
 load_by m s x o verdict.Good n =
     record {
-      refused = λ q. (λ e. not_zero q (sym e), λ f. absurd (not-both (LoadGiven s x o) load_tests q f n));
+      refused = λ q. (λ e. not_zero q (sym e), λ f. absurd (not_both (LoadGiven s x o) load_tests q f n));
       unchanged = λ q e. not_zero q (sym e);
       accepted = (λ e. n, λ e. refl);
     }
@@ -47,10 +47,10 @@ load_by m s x o (verdict.Refused p) f =
     record {
       refused = λ q. (
         λ e. subst (FirstOf (LoadGiven s x o) load_tests) (same_number p q e) f,
-        λ g. ap refusal_number (one-first (LoadGiven s x o) load_tests p q f g),
+        λ g. ap refusal_number (one_first (LoadGiven s x o) load_tests p q f g),
       );
       unchanged = λ q e. (refl, refl, refl);
-      accepted = (not_zero p, λ n. absurd (not-both (LoadGiven s x o) load_tests p f n));
+      accepted = (not_zero p, λ n. absurd (not_both (LoadGiven s x o) load_tests p f n));
     }
 
 pub saves_or_refuses : SavesOrRefuses

@@ -33,15 +33,15 @@ unfolding follow_of with_next
 done_more c d t e = rw (e, eqb-suc-zero (suc c))
 
 module _ (E : Outside) (d₀ : Work) (t₀ : Moment) where
-  course-in : {c : ℕ} {d : Work} {t : Moment} {i o x : ℕ} {l : List ℕ} → Sofar E d₀ t₀ c d t i o x l
+  course_in : {c : ℕ} {d : Work} {t : Moment} {i o x : ℕ} {l : List ℕ} → Sofar E d₀ t₀ c d t i o x l
       → course_of d.kept.opcode d.regs.f ≡ cs E d₀
-  course-in s = ap₂ course_of s.opcode s.flags
+  course_in s = ap₂ course_of s.opcode s.flags
 
   -- after a cycle the next begins, or the instruction is over
   pub settle : (c : ℕ) (d : Work) (t : Moment) (i o x : ℕ) (l : List ℕ) → Sofar E d₀ t₀ c d t i o x l
       → (b : Board) → b ≡ Done c d t → Next E d₀ t₀ b i o
   settle c d t i o x [] s b e =
-      let at : drop c (course_of d.kept.opcode d.regs.f) ≡ x ∷ [] = ap (drop c) (course-in s) ∙ s.place in
+      let at : drop c (course_of d.kept.opcode d.regs.f) ≡ x ∷ [] = ap (drop c) (course_in s) ∙ s.place in
       inr
       (inl
       (record {
@@ -63,7 +63,7 @@ module _ (E : Outside) (d₀ : Work) (t₀ : Moment) where
             ∙ ap₂ Ended s.work s.moment;
       }))
   settle c d t i o x (y ∷ l) s b e =
-      let at : drop c (course_of d.kept.opcode d.regs.f) ≡ x ∷ y ∷ l = ap (drop c) (course-in s) ∙ s.place in
+      let at : drop c (course_of d.kept.opcode d.regs.f) ≡ x ∷ y ∷ l = ap (drop c) (course_in s) ∙ s.place in
       inl
       (subst (λ (z : Board). Going E d₀ t₀ z i o)
       (sym (e ∙ done_more c d t (next_more d.kept.opcode d.regs c x y l at)))

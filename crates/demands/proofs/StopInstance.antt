@@ -11,7 +11,7 @@ use Rattle.run.specs.declared.answer.Answer.TheVariants.{Stopped}
 use Rattle.run.specs.Run.{World, run_of}
 use Rattle.run.specs.Check.{check_of}
 use Rattle.run.specs.Outcome.{verdict_of, ran_in, answered_of, answer_of}
-use Rattle.run.proofs.Laws.{good-answer}
+use Rattle.run.proofs.Laws.{good_answer}
 use Rattle.demands.specs.Outside.{outside_of}
 use Rattle.demands.specs.Board.{Board}
 use Rattle.demands.specs.Calls.{world_on, given_back}
@@ -42,7 +42,7 @@ stops = refl
 -- the call is answered with 10
 answers : answer_of five ports [] 5 ≡ Stopped (ran_in (run_of [] ports 5 five))
 unfolding answered_of
-answers = good-answer five ports [] 5 passes ∙ rw stops
+answers = good_answer five ports [] 5 passes ∙ rw stops
 
 abbrev stuck : Board
 stuck = given_back five ports [] 5 (ran_in (run_of [] ports 5 five))

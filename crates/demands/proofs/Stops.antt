@@ -21,8 +21,8 @@ use Rattle.machine.specs.Step.{risen_of, wait_of, second_of, fetched_of, onward_
 use Rattle.machine.proofs.Onward.{fetch_third}
 use Rattle.run.specs.State.{heard}
 use Rattle.run.specs.Run.{World, eventful_of, state_of, run_of}
-use Rattle.run.proofs.Laws.{next_of, run-stopped}
-use Rattle.demands.proofs.Counted.{next-count}
+use Rattle.run.proofs.Laws.{next_of, run_stopped}
+use Rattle.demands.proofs.Counted.{next_count}
 
 -- the machine goes on
 abbrev Goes : Machine → Type 0
@@ -68,25 +68,25 @@ module _ (c s : ℕ) (d : Bool) where
   abbrev Here : Machine → Type 0
   Here m = stopped_of m.next ≡ true → (Later c s ≡ Later 1 3) × (d ≡ false)
 
-  not-here : (m : Machine) → Goes m → Here m
-  not-here m g e = absurd (false≢true (sym g ∙ e))
+  not_here : (m : Machine) → Goes m → Here m
+  not_here m g e = absurd (false≢true (sym g ∙ e))
 
-  fetched-stops : (v : ℕ) (m : Machine) → eqb s 3 && eqb c 1 ≡ true → Here (fetched_of d v m)
+  fetched_stops : (v : ℕ) (m : Machine) → eqb s 3 && eqb c 1 ≡ true → Here (fetched_of d v m)
   unfolding fetched_of with_next clear_of stopped_of
-  fetched-stops v m t =
+  fetched_stops v m t =
       let (q, p) = fetch_third c s t in
       let on = with_next (Later 1 4) (with_kept (keep_of 1 v m.kept) m) in
-      pick_both Here d on (clear_of Stop m) (λ e. not-here on refl) (λ e x. (ap₂ Later p q, e))
+      pick_both Here d on (clear_of Stop m) (λ e. not_here on refl) (λ e x. (ap₂ Later p q, e))
 
-  later-stops : (y : Cycle) (v : ℕ) (m : Machine) → Here (later_of y c s d v m)
+  later_stops : (y : Cycle) (v : ℕ) (m : Machine) → Here (later_of y c s d v m)
   unfolding later_of second_of with_next stopped_of
-  later-stops y v m =
+  later_stops y v m =
       let up = with_regs (risen_of y.code m.kept m.regs) m in
-      pick_both Here (eqb s 1) (with_next (Later c 2) m) _ (λ e. not-here (with_next (Later c 2) m) refl)
+      pick_both Here (eqb s 1) (with_next (Later c 2) m) _ (λ e. not_here (with_next (Later c 2) m) refl)
       (λ e₁. pick_both Here (eqb s 2) (second_of y.code c m) _
-      (λ e. not-here (second_of y.code c m) (wait_goes (waits_of y.code) c up))
-      (λ e₂. pick_both Here (eqb s 3 && eqb c 1) (fetched_of d v m) _ (λ e. fetched-stops v m e)
-      (λ e₃. not-here (from_third y c s v m) (third_goes y c s v m))))
+      (λ e. not_here (second_of y.code c m) (wait_goes (waits_of y.code) c up))
+      (λ e₂. pick_both Here (eqb s 3 && eqb c 1) (fetched_of d v m) _ (λ e. fetched_stops v m e)
+      (λ e₃. not_here (from_third y c s v m) (third_goes y c s v m))))
 
 -- so does a machine at any position
 moved_stops : (p : Position) (v : ℕ) (m : Machine) → stopped_of p ≡ false → stopped_of (moved_of p v m).next ≡ true
@@ -94,7 +94,7 @@ moved_stops : (p : Position) (v : ℕ) (m : Machine) → stopped_of p ≡ false 
 unfolding moved_of halted_of with_next stopped_of
 moved_stops Fetch v m g e = absurd (false≢true e)
 moved_stops (Later c s) v m g e =
-    later-stops c s (defined_of v) (cycle_of m.kept.opcode m.regs.f c) v m e
+    later_stops c s (defined_of v) (cycle_of m.kept.opcode m.regs.f c) v m e
 moved_stops (Wait c) v m g e = absurd (false≢true (sym (wait_goes true c m) ∙ e))
 moved_stops (Hold c) v m g e =
     absurd (false≢true (sym (hold_goes c (cycle_of m.kept.opcode m.regs.f c).after m) ∙ e))
@@ -107,41 +107,41 @@ module _ (s inputs : List ℕ) where
   StopsHere w =
       (w.machine.next ≡ Later 1 3) × (defined_of (heard (eventful_of s w.machine) w.memory inputs) ≡ false)
 
-  next-stops : (w : World) → stopped_of w.machine.next ≡ false → stopped_of (next_of s inputs w).machine.next ≡ true → StopsHere w
+  next_stops : (w : World) → stopped_of w.machine.next ≡ false → stopped_of (next_of s inputs w).machine.next ≡ true → StopsHere w
   unfolding state_of step_of with_clock eventful_of with_lines
-  next-stops w g e =
+  next_stops w g e =
       moved_stops w.machine.next (heard (eventful_of s w.machine) w.memory inputs) (eventful_of s w.machine) g e
 
-  run-go : (n : ℕ) (w : World) → stopped_of w.machine.next ≡ false → run_of s inputs (suc n) w ≡ run_of s inputs n (next_of s inputs w)
+  run_go : (n : ℕ) (w : World) → stopped_of w.machine.next ≡ false → run_of s inputs (suc n) w ≡ run_of s inputs n (next_of s inputs w)
   unfolding run_of
-  run-go n w g = rw g
+  run_go n w g = rw g
 
-  run-zero : (w : World) → run_of s inputs 0 w ≡ w
+  run_zero : (w : World) → run_of s inputs 0 w ≡ w
   unfolding run_of
-  run-zero w = refl
+  run_zero w = refl
 
   -- a run from w to v stops in its last state, which comes after j others
   abbrev pub Stops : World → World → Type 0
   Stops w v = (j : ℕ) × (v.states ≡ w.states + (j + 1)) × StopsHere (run_of s inputs j w)
 
-  stops-step : (b : Bool) (n : ℕ) (w : World) → stopped_of w.machine.next ≡ false
+  stops_step : (b : Bool) (n : ℕ) (w : World) → stopped_of w.machine.next ≡ false
       → stopped_of (next_of s inputs w).machine.next ≡ b
       → (b ≡ false → Stops (next_of s inputs w) (run_of s inputs n (next_of s inputs w)))
       → Stops w (run_of s inputs n (next_of s inputs w))
-  stops-step true n w g e f =
-      let a = ap (λ (x : World). x.states) (run-stopped s inputs n (next_of s inputs w) e) ∙ next-count s inputs w in
-      (0, omega (arith, a), subst StopsHere (sym (run-zero w)) (next-stops w g e))
-  stops-step false n w g e f =
+  stops_step true n w g e f =
+      let a = ap (λ (x : World). x.states) (run_stopped s inputs n (next_of s inputs w) e) ∙ next_count s inputs w in
+      (0, omega (arith, a), subst StopsHere (sym (run_zero w)) (next_stops w g e))
+  stops_step false n w g e f =
       let x = f refl in
-      let a = next-count s inputs w in
-      (suc x.0, omega (arith, x.1, a), subst StopsHere (sym (run-go x.0 w g)) x.2)
+      let a = next_count s inputs w in
+      (suc x.0, omega (arith, x.1, a), subst StopsHere (sym (run_go x.0 w g)) x.2)
 
-  pub run-stops : (n : ℕ) (w : World) → stopped_of w.machine.next ≡ false
+  pub run_stops : (n : ℕ) (w : World) → stopped_of w.machine.next ≡ false
       → stopped_of (run_of s inputs n w).machine.next ≡ true → Stops w (run_of s inputs n w)
-  run-stops zero w g e =
-      absurd (false≢true (sym g ∙ ap (λ (x : World). stopped_of x.machine.next) (sym (run-zero w)) ∙ e))
-  run-stops (suc n) w g e =
-      let same = run-go n w g in
+  run_stops zero w g e =
+      absurd (false≢true (sym g ∙ ap (λ (x : World). stopped_of x.machine.next) (sym (run_zero w)) ∙ e))
+  run_stops (suc n) w g e =
+      let same = run_go n w g in
       let e' = ap (λ (x : World). stopped_of x.machine.next) (sym same) ∙ e in
       subst (Stops w) (sym same)
-      (stops-step (stopped_of (next_of s inputs w).machine.next) n w g refl (λ h. run-stops n (next_of s inputs w) h e'))
+      (stops_step (stopped_of (next_of s inputs w).machine.next) n w g refl (λ h. run_stops n (next_of s inputs w) h e'))

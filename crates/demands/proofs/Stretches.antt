@@ -25,23 +25,23 @@ pass_add E a (suc b) t =
 
 module _ (f : ℕ → Bool) where
   -- one state more
-  through-more : (t n u : ℕ) → Through f t n → u ≡ t + n → f u ≡ true → Through f t (suc n)
-  through-more t n u h e p i l =
+  through_more : (t n u : ℕ) → Through f t n → u ≡ t + n → f u ≡ true → Through f t (suc n)
+  through_more t n u h e p i l =
       ⊎_elim (λ (q : i ≡ n). ap f (let z : t + i ≡ u = omega arith in z) ∙ p) (λ (q : i < n). h i q)
       (eq-or-lt_of_le (le_of_suc-le-suc l))
 
-  pub through-none : (t : ℕ) → Through f t 0
-  through-none t i l = absurd (let no : ⊥ = omega arith in no)
+  pub through_none : (t : ℕ) → Through f t 0
+  through_none t i l = absurd (let no : ⊥ = omega arith in no)
 
   -- and the end of a row
-  row-end : (t n u : ℕ) → Through f t n → u ≡ t + n → f u ≡ false → Unbroken f t n
-  row-end t n u h e p = (h, ap f (sym e) ∙ p)
+  row_end : (t n u : ℕ) → Through f t n → u ≡ t + n → f u ≡ false → Unbroken f t n
+  row_end t n u h e p = (h, ap f (sym e) ∙ p)
 
   -- in the state u after a stretch the row goes on or is over
   pub row_next : {A : Type 0} (t n u : ℕ) → Through f t n → u ≡ t + n → (f u ≡ true → Through f t (suc n) → A)
       → (f u ≡ false → Unbroken f t n → A) → A
   row_next t n u h e on off =
-      ⊎_elim (λ p. on p (through-more t n u h e p)) (λ p. off p (row-end t n u h e p)) (bool (f u))
+      ⊎_elim (λ p. on p (through_more t n u h e p)) (λ p. off p (row_end t n u h e p)) (bool (f u))
 
   -- a row has one length
   shorter : (t n m : ℕ) → Unbroken f t n → Unbroken f t m → n < m → ⊥

@@ -100,15 +100,15 @@ module _ (Given : Refusal → Type 0) where
   step p ps true (verdict.Refused q) d s = inr (d.pass refl, s)
   step p ps false v d s = inl (refl, d.fail refl)
 
-  pub one-first : (ps : List Refusal) (q q' : Refusal) → FirstOf Given ps q → FirstOf Given ps q' → q ≡ q'
-  one-first [] q q' f g = absurd f
-  one-first (p ∷ ps) q q' f g =
+  pub one_first : (ps : List Refusal) (q q' : Refusal) → FirstOf Given ps q → FirstOf Given ps q' → q ≡ q'
+  one_first [] q q' f g = absurd f
+  one_first (p ∷ ps) q q' f g =
       ⊎_elim (λ x. ⊎_elim (λ y. sym x.0 ∙ y.0) (λ y. absurd (y.0 x.1)) g)
-      (λ x. ⊎_elim (λ y. absurd (x.0 y.1)) (λ y. one-first ps q q' x.1 y.1) g) f
+      (λ x. ⊎_elim (λ y. absurd (x.0 y.1)) (λ y. one_first ps q q' x.1 y.1) g) f
 
-  pub not-both : (ps : List Refusal) (q : Refusal) → FirstOf Given ps q → None Given ps → ⊥
-  not-both [] q f n = f
-  not-both (p ∷ ps) q f n = ⊎_elim (λ x. n.0 x.1) (λ x. not-both ps q x.1 n.1) f
+  pub not_both : (ps : List Refusal) (q : Refusal) → FirstOf Given ps q → None Given ps → ⊥
+  not_both [] q f n = f
+  not_both (p ∷ ps) q f n = ⊎_elim (λ x. n.0 x.1) (λ x. not_both ps q x.1 n.1) f
 
 pub save_sound : (m : Machine) (x o z : List ℕ)
     → Sound (SaveGiven m x o z) save_tests (save_verdict m (length x) (length o) (length z))

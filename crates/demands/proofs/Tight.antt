@@ -24,7 +24,7 @@ use Rattle.demands.specs.Cards.{ports}
 use Rattle.demands.specs.Tight.{xthl, rising, after, BoundMet}
 use Rattle.demands.proofs.Open.{everything}
 use Rattle.demands.proofs.Cards.{zeros, lengths_good}
-use Rattle.demands.proofs.Calling.{same-boards}
+use Rattle.demands.proofs.Calling.{same_boards}
 
 -- the run passes the tests
 fair : check_of xthl.machine 65536 256 256 rising 144 18 ≡ Good
@@ -37,7 +37,7 @@ passes = lengths_good xthl.machine xthl.memory rising 144 18 (ap suc (zeros 6553
 reached : Reached rising ports xthl 18 (board_of (after 18))
 reached =
     subst (λ (x : Board). Reached rising ports xthl 18 x)
-    (same-boards rising ports 18 (world_on xthl (replicate 144 0)) (world_on xthl []) refl refl)
+    (same_boards rising ports 18 (world_on xthl (replicate 144 0)) (world_on xthl []) refl refl)
     (amid (replicate 144 0) 18 18 passes (omega arith))
 
 -- no leg begins in the states between
@@ -48,14 +48,14 @@ all_inner : T (every inner 18)
 unfolding inner everything
 all_inner = tt
 
-not-false : (b : Bool) → T (not b) → b ≡ false
-not-false true t = absurd t
-not-false false t = refl
+not_false : (b : Bool) → T (not b) → b ≡ false
+not_false true t = absurd t
+not_false false t = refl
 
 not_begun : (j : ℕ) → 0 < j → T (inner j) → begins (after j).machine.next ≡ false
 unfolding inner
 not_begun j h t =
-    not-false (begins (after j).machine.next)
+    not_false (begins (after j).machine.next)
     (subst (λ (x : Bool). T (x || not (begins (after j).machine.next))) (ne_eqb j 0 (λ e. omega arith)) t)
 
 -- the schedule has no other event

@@ -24,32 +24,32 @@ use Rattle.demands.proofs.Stretches.{clock_pass}
 use Rattle.demands.proofs.Steps.{run}
 use Rattle.demands.proofs.Openings.{Start, opcode_none}
 use Rattle.demands.proofs.Journeys as journeys
-use Rattle.demands.proofs.Journeys.{now-begin}
-use Rattle.demands.proofs.Runs.{now-awake, Ends, inside, stopped, leg, run_ends}
-use Rattle.demands.proofs.Calling.{run-clock}
+use Rattle.demands.proofs.Journeys.{now_begin}
+use Rattle.demands.proofs.Runs.{now_awake, Ends, inside, stopped, leg, run_ends}
+use Rattle.demands.proofs.Calling.{run_clock}
 use Rattle.demands.proofs.Done.{trip_run}
 
 -- a run that stops: legs, and then the undefined opcode
 ends_stop : (E : Outside) (b₀ b : Board) (n : ℕ) → Ends E b₀ n b → stopped_of b.machine.next ≡ true
     → (q : Tally) × (m : Board) × Trip E b₀ q m × (i : ℕ) × (o : ℕ) × journeys.Stopped E m b i o
-ends_stop E b₀ b n (inside x) f = absurd (true≢false (sym f ∙ now-awake E b₀ x))
+ends_stop E b₀ b n (inside x) f = absurd (true≢false (sym f ∙ now_awake E b₀ x))
 ends_stop E b₀ b n (stopped i o m l z) f = (tally 0 0 0 0, b₀, stay, i, o, z)
 ends_stop E b₀ b n (leg {b₁ = b₁} {n = k} q l x) f =
     let (p, m, t, i, o, z) = ends_stop E b₁ b k x f in (plus q p, m, go l t, i, o, z)
 
 -- the fetch asks for a byte of memory, and changes none
 module _ (E : Outside) (b : Board) (k : b.machine.kept ≡ kept_for None 0) where
-  fetch-regs : (risen fetch4 (work_of b)).regs ≡ with_pc (up_of b.machine.regs.pc 1) b.machine.regs
+  fetch_regs : (risen fetch4 (work_of b)).regs ≡ with_pc (up_of b.machine.regs.pc 1) b.machine.regs
   unfolding kept_for raises_of risen_of
-  fetch-regs = rw k
+  fetch_regs = rw k
 
-  fetch-memory : (use_cycle E fetch4 0 (work_of b)).memory ≡ b.memory
+  fetch_memory : (use_cycle E fetch4 0 (work_of b)).memory ≡ b.memory
   unfolding kept_for asked_of kind_of writes_of memory_after
-  fetch-memory = rw k
+  fetch_memory = rw k
 
-  fetch-outputs : (use_cycle E fetch4 0 (work_of b)).outputs ≡ b.outputs
+  fetch_outputs : (use_cycle E fetch4 0 (work_of b)).outputs ≡ b.outputs
   unfolding kept_for asked_of kind_of writes_of outputs_after
-  fetch-outputs = rw k
+  fetch_outputs = rw k
 
 fetch_next : (b : Board) → b.machine.next ≡ Fetch → stopped_of b.machine.next ≡ false
 unfolding stopped_of
@@ -60,14 +60,14 @@ pub stops_run : (E : Outside) (b b' : Board) (k n : ℕ) → Start b → b' ≡ 
     → b'.machine.clock ≡ b.machine.clock + n → StopsAt E b n b'
 unfolding waits_of kind_of
 stops_run E b b' k n s e f c =
-    let x : Ends E b (0 + k) (run E k b) = run_ends E k b b 0 0 (now-begin E b s) in
+    let x : Ends E b (0 + k) (run E k b) = run_ends E k b b 0 0 (now_begin E b s) in
     let (q, m, t, i, o, z) =
     ends_stop E b (run E k b) (0 + k) x (ap (λ (y : Board). stopped_of y.machine.next) (sym e) ∙ f) in
     let board = e ∙ z.stops.board in
     let r = trip_run E b m q t in
     let there : m.machine.clock ≡ b.machine.clock + states_in q =
     ap (λ (y : Board). y.machine.clock) (sym r)
-    ∙ run-clock E (states_in q) b
+    ∙ run_clock E (states_in q) b
     (ap (λ (y : Board). stopped_of y.machine.next) r ∙ fetch_next m z.next) in
     let past : b'.machine.clock ≡ m.machine.clock + i =
     ap (λ (y : Board). y.machine.clock) board ∙ clock_pass E i (moment_of m) in
@@ -82,7 +82,7 @@ stops_run E b b' k n s e f c =
       row = z.stops.waits;
       states = omega (arith, z.stops.count);
       stopped = ap (λ (y : Board). y.machine.next) board;
-      regs = ap (λ (y : Board). y.machine.regs) board ∙ fetch-regs E m z.kept;
-      memory = ap (λ (y : Board). y.memory) board ∙ fetch-memory E m z.kept;
-      outputs = ap (λ (y : Board). y.outputs) board ∙ fetch-outputs E m z.kept;
+      regs = ap (λ (y : Board). y.machine.regs) board ∙ fetch_regs E m z.kept;
+      memory = ap (λ (y : Board). y.memory) board ∙ fetch_memory E m z.kept;
+      outputs = ap (λ (y : Board). y.outputs) board ∙ fetch_outputs E m z.kept;
     }

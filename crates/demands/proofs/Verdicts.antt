@@ -127,9 +127,9 @@ module _ (c : Call) where
   abbrev pub before : World
   before = start_of c.machine c.memory c.outputs c.trace
 
-  pub verdict-sound : Sound (verdict_of before c.inputs c.schedule c.states)
+  pub verdict_sound : Sound (verdict_of before c.inputs c.schedule c.states)
   unfolding verdict_of check_of schedule_verdict states_verdict checked_of
-  verdict-sound =
+  verdict_sound =
       let s = c.schedule in
       let n = length s / 6 in
       step MemorySize (eqb (length c.memory) 65536) _ (bars_not (shows_eqb (length c.memory) 65536))

@@ -18,12 +18,12 @@ unfolding reading_of
 other_size t x h = record { answer = rw (ne_eqb _ 65536 h); memory = rw (ne_eqb _ 65536 h) }
 
 module _ (t x : List ℕ) (size : length x ≡ 65536) (r : Reading) (judged : r ≡ judged_from 1 (text_lines t)) where
-  pub good-text : (x' : List ℕ) → r ≡ Read → x' ≡ landed_from (text_lines t) x → Reads t x r x'
+  pub good_text : (x' : List ℕ) → r ≡ Read → x' ≡ landed_from (text_lines t) x → Reads t x r x'
   unfolding reading_of
-  good-text x' e l =
+  good_text x' e l =
       record { answer = rw (eq-eqb _ 65536 size) judged; memory = rw (eq-eqb _ 65536 size, sym judged ∙ e) l }
 
-  pub refused-text : (reason : Refusal) (line : ℕ) → r ≡ Refused reason line → Reads t x r x
+  pub refused_text : (reason : Refusal) (line : ℕ) → r ≡ Refused reason line → Reads t x r x
   unfolding reading_of
-  refused-text reason line e =
+  refused_text reason line e =
       record { answer = rw (eq-eqb _ 65536 size) judged; memory = rw (eq-eqb _ 65536 size, sym judged ∙ e) }

@@ -39,12 +39,12 @@ module _ (x : List ℕ) (a n : ℕ) where
       rw (only, take_all 16 (take n (drop a x)) (rw length-take (omega arith)))
 
   -- so a turn, which writes at most 16 of them, leaves the whole text as it was
-  pub chunk-turn : (size : ℕ) (t u : Text) → 0 < n → a + n ≤ length x → size ≡ min n 16
+  pub chunk_turn : (size : ℕ) (t u : Text) → 0 < n → a + n ≤ length x → size ≡ min n 16
       → u ≡ written_of (record_of 0 a (take (a + size - a) (drop a x))) t
       → written_of (records_of (records_for (n - size)) (a + size) (range_of x (a + size) (n - size))) u
       ≡ written_of (records_of (records_for n) a (range_of x a n)) t
   unfolding records_of
-  chunk-turn size t u h k e f =
+  chunk_turn size t u h k e f =
       let some : a + size - a ≡ size = omega arith in
       ⊎_elim
       (λ (l : n < 16).

@@ -45,65 +45,65 @@ part l = take (length l - 1) (drop 1 l)
 
 -- a record of hex digits, test by test
 module _ (l : List ℕ) where
-  pub sound-size : (length l ≡ 2 * record_count l + 11 → ⊥) → false ≡ record_sound l
+  pub sound_size : (length l ≡ 2 * record_count l + 11 → ⊥) → false ≡ record_sound l
   unfolding record_sound
-  sound-size h = rw (ne_eqb _ _ h)
+  sound_size h = rw (ne_eqb _ _ h)
 
   module _ (size : length l ≡ 2 * record_count l + 11) where
-    pub sound-sum : (byte_sum (bytes_in (part l)) % 256 ≡ 0 → ⊥) → false ≡ record_sound l
+    pub sound_sum : (byte_sum (bytes_in (part l)) % 256 ≡ 0 → ⊥) → false ≡ record_sound l
     unfolding record_sound
-    sound-sum h = rw (← rest 1 l, ne_eqb _ 0 h) (second_false (eqb (length l) (2 * record_count l + 11)) (end_rule l))
+    sound_sum h = rw (← rest 1 l, ne_eqb _ 0 h) (second_false (eqb (length l) (2 * record_count l + 11)) (end_rule l))
 
     module _ (sum : byte_sum (bytes_in (part l)) % 256 ≡ 0) where
-      pub sound-other : (record_type l ≡ 1 → ⊥) → true ≡ record_sound l
+      pub sound_other : (record_type l ≡ 1 → ⊥) → true ≡ record_sound l
       unfolding record_sound
-      sound-other h = rw (eq-eqb _ _ size, ← rest 1 l, eq-eqb _ 0 sum, ne_eqb _ 1 h)
+      sound_other h = rw (eq-eqb _ _ size, ← rest 1 l, eq-eqb _ 0 sum, ne_eqb _ 1 h)
 
-      pub sound-end : record_type l ≡ 1 → (eqb (record_count l) 0 && eqb (record_address l) 0) ≡ record_sound l
+      pub sound_end : record_type l ≡ 1 → (eqb (record_count l) 0 && eqb (record_address l) 0) ≡ record_sound l
       unfolding record_sound
-      sound-end h = rw (eq-eqb _ _ size, ← rest 1 l, eq-eqb _ 0 sum, eq-eqb _ 1 h)
+      sound_end h = rw (eq-eqb _ _ size, ← rest 1 l, eq-eqb _ 0 sum, eq-eqb _ 1 h)
 
   -- it has the length that its count says
-  sound-length : record_sound l ≡ true → length l ≡ 2 * record_count l + 11
+  sound_length : record_sound l ≡ true → length l ≡ 2 * record_count l + 11
   unfolding record_sound
-  sound-length e =
+  sound_length e =
       eqb-true (length l) (2 * record_count l + 11)
       (all_true (eqb (length l) (2 * record_count l + 11)) (checked (bytes_in (drop 1 l))) (end_rule l) e).0
 
 -- a line, test by test
 module _ (l : List ℕ) where
-  pub formed-short : length l < 11 → false ≡ line_formed l
+  pub formed_short : length l < 11 → false ≡ line_formed l
   unfolding line_formed
-  formed-short h =
-      let none = sound-size l (λ e. let no : ⊥ = omega (arith, e) in no) in
+  formed_short h =
+      let none = sound_size l (λ e. let no : ⊥ = omega (arith, e) in no) in
       rw (← none) (third_false (eqb (get_or l 0 0) 58) (all_hex (drop 1 l)))
 
-  pub formed-colon : (get_or l 0 0 ≡ 58 → ⊥) → false ≡ line_formed l
+  pub formed_colon : (get_or l 0 0 ≡ 58 → ⊥) → false ≡ line_formed l
   unfolding line_formed
-  formed-colon h = rw (ne_eqb _ 58 h)
+  formed_colon h = rw (ne_eqb _ 58 h)
 
-  pub formed-hex : all_hex (part l) ≡ false → false ≡ line_formed l
+  pub formed_hex : all_hex (part l) ≡ false → false ≡ line_formed l
   unfolding line_formed
-  formed-hex h = rw (← rest 1 l, h) (second_false (eqb (get_or l 0 0) 58) (record_sound l))
+  formed_hex h = rw (← rest 1 l, h) (second_false (eqb (get_or l 0 0) 58) (record_sound l))
 
-  pub formed-sound : get_or l 0 0 ≡ 58 → all_hex (part l) ≡ true → record_sound l ≡ line_formed l
+  pub formed_sound : get_or l 0 0 ≡ 58 → all_hex (part l) ≡ true → record_sound l ≡ line_formed l
   unfolding line_formed
-  formed-sound h e = rw (eq-eqb _ 58 h, ← rest 1 l, e)
+  formed_sound h e = rw (eq-eqb _ 58 h, ← rest 1 l, e)
 
   -- what is lent for its digits are hex digits
-  pub lent-hex : all_hex (part l) ≡ true → all_hex (drop 1 l) ≡ true
-  lent-hex e = rw (← rest 1 l) e
+  pub lent_hex : all_hex (part l) ≡ true → all_hex (drop 1 l) ≡ true
+  lent_hex e = rw (← rest 1 l) e
 
   -- a formed line has the length that its count says, and its fields can be read
-  formed-tests : line_formed l ≡ true → (eqb (get_or l 0 0) 58 ≡ true) × (all_hex (drop 1 l) ≡ true) × (record_sound l ≡ true)
+  formed_tests : line_formed l ≡ true → (eqb (get_or l 0 0) 58 ≡ true) × (all_hex (drop 1 l) ≡ true) × (record_sound l ≡ true)
   unfolding line_formed
-  formed-tests e = all_true (eqb (get_or l 0 0) 58) (all_hex (drop 1 l)) (record_sound l) e
+  formed_tests e = all_true (eqb (get_or l 0 0) 58) (all_hex (drop 1 l)) (record_sound l) e
 
-  pub formed-length : line_formed l ≡ true → length l ≡ 2 * record_count l + 11
-  formed-length e = sound-length l (formed-tests e).2
+  pub formed_length : line_formed l ≡ true → length l ≡ 2 * record_count l + 11
+  formed_length e = sound_length l (formed_tests e).2
 
-  pub formed-fields : line_formed l ≡ true → Readable l
-  formed-fields e = let size = formed-length e in (omega (arith, size), (formed-tests e).1)
+  pub formed_fields : line_formed l ≡ true → Readable l
+  formed_fields e = let size = formed_length e in (omega (arith, size), (formed_tests e).1)
 
 -- what a line is, by the four tests: formed, type 01, type 00, inside memory
 abbrev line_by : Bool → Bool → Bool → Bool → Line

@@ -17,7 +17,7 @@ use Rattle.text.specs.Bytes.{Bytes}
 use Rattle.text.proofs.Bytes.{bytes_drop}
 use Rattle.intel_hex.proofs.Pieces.{digits_length, sum_both}
 use Rattle.intel_hex.proofs.Values.{pair_back, digits_back, digits_hex}
-use Rattle.intel_hex.proofs.Split.{bytes_for, record_bare, record-bytes}
+use Rattle.intel_hex.proofs.Split.{bytes_for, record_bare, record_bytes}
 
 -- the byte at the end makes the sum 0 modulo 256
 sums : (s : List ℕ) → byte_sum (s ++ checksum_of s ∷ []) % 256 ≡ 0
@@ -31,35 +31,35 @@ end_line = refl
 
 module _ (a : ℕ) (d : List ℕ) (place : a < 65536) (few : length d < 256) (bytes : Bytes d) where
   all : Bytes (bytes_for 0 a d)
-  all = record-bytes 0 a d (omega arith) place few bytes
+  all = record_bytes 0 a d (omega arith) place few bytes
 
   -- the fields
-  pub data-count : record_count (bare_of (record_of 0 a d)) ≡ length d
+  pub data_count : record_count (bare_of (record_of 0 a d)) ≡ length d
   unfolding byte_at digits_of byte_of
-  data-count = rw (record_bare, pair_back (length d) few)
+  data_count = rw (record_bare, pair_back (length d) few)
 
-  pub data-type : record_type (bare_of (record_of 0 a d)) ≡ 0
+  pub data_type : record_type (bare_of (record_of 0 a d)) ≡ 0
   unfolding byte_at digits_of byte_of
-  data-type = rw (record_bare, pair_back 0 (omega arith))
+  data_type = rw (record_bare, pair_back 0 (omega arith))
 
-  pub data-address : record_address (bare_of (record_of 0 a d)) ≡ a
+  pub data_address : record_address (bare_of (record_of 0 a d)) ≡ a
   unfolding byte_at digits_of byte_of
-  data-address = rw (record_bare, pair_back (a / 256) (omega arith), pair_back (a % 256) (omega arith)) (omega arith)
+  data_address = rw (record_bare, pair_back (a / 256) (omega arith), pair_back (a % 256) (omega arith)) (omega arith)
 
-  pub data-data : record_data (bare_of (record_of 0 a d)) ≡ d
+  pub data_data : record_data (bare_of (record_of 0 a d)) ≡ d
   unfolding digits_of byte_of
-  data-data =
+  data_data =
       let back = digits_back (d ++ checksum_of (body_of 0 a d) ∷ []) (bytes_drop 4 (bytes_for 0 a d) all) in
-      rw (data-count, record_bare, back, take-append_seam)
+      rw (data_count, record_bare, back, take-append_seam)
 
   -- the form
-  data-length : length (bare_of (record_of 0 a d)) ≡ 2 * length d + 11
-  data-length = rw (record_bare, digits_length, length-append) (omega arith)
+  data_length : length (bare_of (record_of 0 a d)) ≡ 2 * length d + 11
+  data_length = rw (record_bare, digits_length, length-append) (omega arith)
 
-  pub data-formed : line_formed (bare_of (record_of 0 a d)) ≡ true
+  pub data_formed : line_formed (bare_of (record_of 0 a d)) ≡ true
   unfolding line_formed record_sound
-  data-formed = rw (data-length, data-count, data-type, record_bare, eq-eqb _ _ refl, digits_hex _ all, digits_back _ all, sums)
+  data_formed = rw (data_length, data_count, data_type, record_bare, eq-eqb _ _ refl, digits_hex _ all, digits_back _ all, sums)
 
-  pub data-line : a + length d ≤ 65536 → line_is (bare_of (record_of 0 a d)) ≡ Data
+  pub data_line : a + length d ≤ 65536 → line_is (bare_of (record_of 0 a d)) ≡ Data
   unfolding line_is
-  data-line fits = rw (data-formed, data-type, data-address, data-count, le-leb _ _ fits)
+  data_line fits = rw (data_formed, data_type, data_address, data_count, le-leb _ _ fits)

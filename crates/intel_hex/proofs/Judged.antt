@@ -18,17 +18,17 @@ use Rattle.intel_hex.proofs.Formed.{no_read, good_line}
 
 -- the answer at the first of some lines, by what it is, and where there is none
 module _ (n : ℕ) (ls : List (List ℕ)) (l : List ℕ) (k : List (List ℕ)) (s : ls ≡ l ∷ k) where
-  pub judged-data : line_is (bare_of l) ≡ Data → judged_from (n + 1) k ≡ judged_from n ls
+  pub judged_data : line_is (bare_of l) ≡ Data → judged_from (n + 1) k ≡ judged_from n ls
   unfolding judged_from
-  judged-data e = rw (s, e)
+  judged_data e = rw (s, e)
 
-  pub judged-end : line_is (bare_of l) ≡ End → Read ≡ judged_from n ls
+  pub judged_end : line_is (bare_of l) ≡ End → Read ≡ judged_from n ls
   unfolding judged_from
-  judged-end e = rw (s, e)
+  judged_end e = rw (s, e)
 
-  pub judged-fault : (r : Refusal) → line_is (bare_of l) ≡ Faulty r → Refused r n ≡ judged_from n ls
+  pub judged_fault : (r : Refusal) → line_is (bare_of l) ≡ Faulty r → Refused r n ≡ judged_from n ls
   unfolding judged_from
-  judged-fault r e = rw (s, e)
+  judged_fault r e = rw (s, e)
 
 pub judged_none : (n : ℕ) (ls : List (List ℕ)) → ls ≡ [] → Refused NoEnd 0 ≡ judged_from n ls
 unfolding judged_from
@@ -53,22 +53,22 @@ module _ (ls : List (List ℕ)) (l : List ℕ) (k : List (List ℕ)) (s : ls ≡
   unfolding judged_from
   good = good_line (bare_of l) 1 (judged_from (1 + 1) k) (ap (judged_from 1) (sym s) ∙ h)
 
-  pub good-formed : line_formed (bare_of l) ≡ true
-  good-formed = good.0
+  pub good_formed : line_formed (bare_of l) ≡ true
+  good_formed = good.0
 
-  pub good-end : (x : List ℕ) → eqb (record_type (bare_of l)) 1 ≡ true → x ≡ landed_from ls x
+  pub good_end : (x : List ℕ) → eqb (record_type (bare_of l)) 1 ≡ true → x ≡ landed_from ls x
   unfolding landed_from
-  good-end x e = rw (s, good.1 e)
+  good_end x e = rw (s, good.1 e)
 
-  pub good-data : eqb (record_type (bare_of l)) 1 ≡ false → line_is (bare_of l) ≡ Data
-  good-data e = good.2 e
+  pub good_data : eqb (record_type (bare_of l)) 1 ≡ false → line_is (bare_of l) ≡ Data
+  good_data e = good.2 e
 
-  pub good-landed : (x : List ℕ) → eqb (record_type (bare_of l)) 1 ≡ false → landed_from k (landed_of (bare_of l) x) ≡ landed_from ls x
+  pub good_landed : (x : List ℕ) → eqb (record_type (bare_of l)) 1 ≡ false → landed_from k (landed_of (bare_of l) x) ≡ landed_from ls x
   unfolding landed_from
-  good-landed x e = rw (s, good-data e)
+  good_landed x e = rw (s, good_data e)
 
-  pub good-next : eqb (record_type (bare_of l)) 1 ≡ false → judged_from 1 k ≡ Read
-  good-next e = any_number (1 + 1) 1 k (judged-data 1 ls l k s (good-data e) ∙ h)
+  pub good_next : eqb (record_type (bare_of l)) 1 ≡ false → judged_from 1 k ≡ Read
+  good_next e = any_number (1 + 1) 1 k (judged_data 1 ls l k s (good_data e) ∙ h)
 
 pub landed_none : (ls : List (List ℕ)) (x : List ℕ) → ls ≡ [] → x ≡ landed_from ls x
 unfolding landed_from

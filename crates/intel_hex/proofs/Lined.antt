@@ -20,46 +20,46 @@ rest n l = take_all (length l - n) (drop n l) (rw length-drop (omega arith))
 
 -- where the line from i on ends: no LF, an LF, and the end of the text
 module _ (s : List ℕ) (i : ℕ) where
-  pub line-turn : i < length s → (get_or s i 0 ≡ 10 → ⊥) → i + 1 + first_length (drop (i + 1) s) ≡ i + first_length (drop i s)
+  pub line_turn : i < length s → (get_or s i 0 ≡ 10 → ⊥) → i + 1 + first_length (drop (i + 1) s) ≡ i + first_length (drop i s)
   unfolding first_length
-  line-turn h e = rw (drop-cons s i 0 h, add-one i, ne_eqb _ 10 e) (omega arith)
+  line_turn h e = rw (drop-cons s i 0 h, add-one i, ne_eqb _ 10 e) (omega arith)
 
-  pub line-stop : i < length s → get_or s i 0 ≡ 10 → i + 1 ≡ i + first_length (drop i s)
+  pub line_stop : i < length s → get_or s i 0 ≡ 10 → i + 1 ≡ i + first_length (drop i s)
   unfolding first_length
-  line-stop h e = rw (drop-cons s i 0 h, eq-eqb _ 10 e)
+  line_stop h e = rw (drop-cons s i 0 h, eq-eqb _ 10 e)
 
-  pub line-none : length s ≤ i → i ≡ i + first_length (drop i s)
+  pub line_none : length s ≤ i → i ≡ i + first_length (drop i s)
   unfolding first_length
-  line-none h = rw drop_of_length-le (omega arith)
+  line_none h = rw drop_of_length-le (omega arith)
 
 -- the length of a line without its ending: none, an LF alone, CR LF, and LF
 module _ (l : List ℕ) where
-  pub ends-not : (get_or l (length l - 1) 0 ≡ 10 → ⊥) → length l ≡ length l - ending_of l
+  pub ends_not : (get_or l (length l - 1) 0 ≡ 10 → ⊥) → length l ≡ length l - ending_of l
   unfolding ending_of
-  ends-not e = rw (ne_eqb _ 10 e) (omega arith)
+  ends_not e = rw (ne_eqb _ 10 e) (omega arith)
 
-  pub ends-short : length l < 2 → get_or l (length l - 1) 0 ≡ 10 → 0 ≡ length l - ending_of l
+  pub ends_short : length l < 2 → get_or l (length l - 1) 0 ≡ 10 → 0 ≡ length l - ending_of l
   unfolding ending_of
-  ends-short h e =
+  ends_short h e =
       rw (eq-eqb _ 10 e)
       (pick_both (λ k. 0 ≡ length l - k) (eqb (get_or l (length l - 2) 0) 13) 2 1 (λ b. omega arith) (λ b. omega arith))
 
-  pub ends-both : get_or l (length l - 1) 0 ≡ 10 → get_or l (length l - 2) 0 ≡ 13 → length l - 2 ≡ length l - ending_of l
+  pub ends_both : get_or l (length l - 1) 0 ≡ 10 → get_or l (length l - 2) 0 ≡ 13 → length l - 2 ≡ length l - ending_of l
   unfolding ending_of
-  ends-both e b = rw (eq-eqb _ 10 e, eq-eqb _ 13 b)
+  ends_both e b = rw (eq-eqb _ 10 e, eq-eqb _ 13 b)
 
-  pub ends-feed : get_or l (length l - 1) 0 ≡ 10 → (get_or l (length l - 2) 0 ≡ 13 → ⊥) → length l - 1 ≡ length l - ending_of l
+  pub ends_feed : get_or l (length l - 1) 0 ≡ 10 → (get_or l (length l - 2) 0 ≡ 13 → ⊥) → length l - 1 ≡ length l - ending_of l
   unfolding ending_of
-  ends-feed e b = rw (eq-eqb _ 10 e, ne_eqb _ 13 b)
+  ends_feed e b = rw (eq-eqb _ 10 e, ne_eqb _ 13 b)
 
 -- the first n characters of a line are the line without its ending
 module _ (l : List ℕ) (n : ℕ) (e : n ≡ length l - ending_of l) where
-  pub bare-size : n ≡ length (take n l)
-  bare-size = sym (length-take-le n l (omega (arith, e)))
+  pub bare_size : n ≡ length (take n l)
+  bare_size = sym (length-take-le n l (omega (arith, e)))
 
-  pub bare-is : take n l ≡ bare_of l
+  pub bare_is : take n l ≡ bare_of l
   unfolding bare_of
-  bare-is = rw e
+  bare_is = rw e
 
 -- the first line is not empty, and lies in the text
 pub first_some : (t : List ℕ) → 0 < length t → 0 < first_length t
@@ -96,8 +96,8 @@ module _ (t : List ℕ) (at end : ℕ) (h : at < length t) (e : end ≡ at + fir
   pub line_on : at < end
   line_on = omega (arith, e, first_some (drop at t) (rw length-drop (omega arith)))
 
-  pub line-in : end ≤ length t
-  line-in = omega (arith, e, first_within (drop at t), length-drop at t)
+  pub line_in : end ≤ length t
+  line_in = omega (arith, e, first_within (drop at t), length-drop at t)
 
   pub line_at : text_lines (drop at t) ≡ take (end - at) (drop at t) ∷ text_lines (drop end t)
   line_at =

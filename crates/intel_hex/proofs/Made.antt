@@ -25,16 +25,16 @@ module _ (t a : ℕ) (d : List ℕ) where
   head_of = length d ∷ a / 256 ∷ a % 256 ∷ t ∷ []
 
   -- the last byte, by the sums of both parts
-  check-made : (h b : ℕ) → h ≡ byte_sum head_of % 256 → b ≡ byte_sum d % 256 → checksum_of (body_of t a d) ≡ (256 - (h + b) % 256) % 256
-  check-made h b p q =
+  check_made : (h b : ℕ) → h ≡ byte_sum head_of % 256 → b ≡ byte_sum d % 256 → checksum_of (body_of t a d) ≡ (256 - (h + b) % 256) % 256
+  check_made h b p q =
       let sum : byte_sum (head_of ++ d) % 256 ≡ (h + b) % 256 = omega (arith, sum_both head_of d) in
       ap (λ n. (256 - n) % 256) sum
 
-  pub record-made : (h b : ℕ) (s : Text) {u v w x y : Text} → h ≡ byte_sum head_of % 256 → b ≡ byte_sum d % 256 → u ≡ put_of colon s
+  pub record_made : (h b : ℕ) (s : Text) {u v w x y : Text} → h ≡ byte_sum head_of % 256 → b ≡ byte_sum d % 256 → u ≡ put_of colon s
       → v ≡ written_of (digits_of head_of) u → w ≡ written_of (digits_of d) v
       → x ≡ written_of (byte_of ((256 - (h + b) % 256) % 256)) w → y ≡ written_of (carriage ∷ feed ∷ []) x
       → y ≡ written_of (record_of t a d) s
   unfolding record_of
-  record-made h b s p q e f g k l =
-      rw (check-made h b p q, digits_both head_of d, digits_one)
+  record_made h b s p q e f g k l =
+      rw (check_made h b p q, digits_both head_of d, digits_one)
       (more _ _ _ e (both _ _ _ (both _ _ _ (both _ _ _ f g) k) l))

@@ -61,47 +61,47 @@ few (c ∷ b ∷ s) h = absurd (let no : ⊥ = omega arith in no)
 
 module _ (s : List ℕ) (i : ℕ) where
   -- all characters so far and all that are left are hex digits: one more, and the end
-  pub hex-turn : (a : Bool) → i < length s → (a && is_hex (get_or s i 0) && all_hex (drop (i + 1) s)) ≡ (a && all_hex (drop i s))
+  pub hex_turn : (a : Bool) → i < length s → (a && is_hex (get_or s i 0) && all_hex (drop (i + 1) s)) ≡ (a && all_hex (drop i s))
   unfolding all_hex
-  hex-turn a h = rw (drop-cons s i 0 h, add-one i) (and_all a _ _)
+  hex_turn a h = rw (drop-cons s i 0 h, add-one i) (and_all a _ _)
 
-  pub hex-end : (a : Bool) → length s ≤ i → a ≡ (a && all_hex (drop i s))
+  pub hex_end : (a : Bool) → length s ≤ i → a ≡ (a && all_hex (drop i s))
   unfolding all_hex
-  hex-end a h = rw drop_of_length-le (and_true a)
+  hex_end a h = rw drop_of_length-le (and_true a)
 
   -- two digits are a byte; fewer are none
-  pub bytes-more : i + 1 < length s → bytes_in (drop i s) ≡ byte_at s i ∷ bytes_in (drop (i + 2) s)
+  pub bytes_more : i + 1 < length s → bytes_in (drop i s) ≡ byte_at s i ∷ bytes_in (drop (i + 2) s)
   unfolding bytes_in byte_at
-  bytes-more h =
+  bytes_more h =
       let two : i + 2 ≡ suc (suc i) = omega arith in
       rw (drop-cons s i 0 (omega arith), drop-cons s (suc i) 0 (omega arith), add-one i, two)
 
-  pub bytes-none : length s < i + 2 → bytes_in (drop i s) ≡ []
-  bytes-none h = few (drop i s) (rw length-drop (omega arith))
+  pub bytes_none : length s < i + 2 → bytes_in (drop i s) ≡ []
+  bytes_none h = few (drop i s) (rw length-drop (omega arith))
 
 -- the sum of bytes: one more, modulo 256, and the end
 module _ (s : List ℕ) (i t : ℕ) where
-  pub sum-turn : i + 1 < length s → ((t + byte_at s i) % 256 + byte_sum (bytes_in (drop (i + 2) s))) % 256 ≡ (t + byte_sum (bytes_in (drop i s))) % 256
+  pub sum_turn : i + 1 < length s → ((t + byte_at s i) % 256 + byte_sum (bytes_in (drop (i + 2) s))) % 256 ≡ (t + byte_sum (bytes_in (drop i s))) % 256
   unfolding byte_sum
-  sum-turn h = rw (bytes-more s i h) (omega arith)
+  sum_turn h = rw (bytes_more s i h) (omega arith)
 
-  pub sum-end : length s < i + 2 → t < 256 → t ≡ (t + byte_sum (bytes_in (drop i s))) % 256
+  pub sum_end : length s < i + 2 → t < 256 → t ≡ (t + byte_sum (bytes_in (drop i s))) % 256
   unfolding byte_sum
-  sum-end h l = rw (bytes-none s i h) (omega arith)
+  sum_end h l = rw (bytes_none s i h) (omega arith)
 
 -- the bytes put from the address a on: the byte i, and the end
 module _ (s x : List ℕ) (a i n : ℕ) where
-  pub put-turn : i < n → 2 * n ≤ length s
+  pub put_turn : i < n → 2 * n ≤ length s
       → sets (set x (a + i) (byte_at s (2 * i))) (a + (i + 1)) (take (n - (i + 1)) (bytes_in (drop (2 * (i + 1)) s)))
       ≡ sets x (a + i) (take (n - i) (bytes_in (drop (2 * i) s)))
-  put-turn h l =
+  put_turn h l =
       let left : n - i ≡ suc (n - (i + 1)) = omega arith in
       let next : 2 * i + 2 ≡ 2 * (i + 1) = omega arith in
       let place : a + (i + 1) ≡ suc (a + i) = omega arith in
-      rw (left, bytes-more s (2 * i) (omega arith), next, place)
+      rw (left, bytes_more s (2 * i) (omega arith), next, place)
 
-  pub put-end : n ≤ i → sets x (a + i) (take (n - i) (bytes_in (drop (2 * i) s))) ≡ x
-  put-end h = let none : n - i ≡ 0 = omega arith in rw none
+  pub put_end : n ≤ i → sets x (a + i) (take (n - i) (bytes_in (drop (2 * i) s))) ≡ x
+  put_end h = let none : n - i ≡ 0 = omega arith in rw none
 
 -- the bytes put, from the start on
 pub put_start : (s x : List ℕ) (a n : ℕ) → sets x (a + 0) (take (n - 0) (bytes_in (drop (2 * 0) s))) ≡ sets x a (take n (bytes_in s))

@@ -16,7 +16,7 @@ use Rattle.intel_hex.specs.Record.{colon, body_of, checksum_of, record_of}
 use Rattle.text.specs.Bytes.{Bytes}
 use Rattle.text.proofs.Bytes.{bytes_cons, bytes_both}
 use Rattle.intel_hex.proofs.Pieces.{digits_both}
-use Rattle.intel_hex.proofs.Values.{digit-no-feed}
+use Rattle.intel_hex.proofs.Values.{digit_no_feed}
 
 -- no line ends within l
 abbrev pub NoFeed : List ℕ → Type 0
@@ -41,7 +41,7 @@ digits_no_feed : (s : List ℕ) → Bytes s → NoFeed (digits_of s)
 unfolding digits_of byte_of
 digits_no_feed [] h = tt
 digits_no_feed (b ∷ s) h =
-    (digit-no-feed (b / 16) (omega (arith, h 0)), (digit-no-feed (b % 16) (omega arith), digits_no_feed s (λ j. h (suc j))))
+    (digit_no_feed (b / 16) (omega (arith, h 0)), (digit_no_feed (b % 16) (omega arith), digits_no_feed s (λ j. h (suc j))))
 
 -- a record's bytes, and a record without its ending
 abbrev pub bytes_for : ℕ → ℕ → List ℕ → List ℕ
@@ -58,13 +58,13 @@ pub record_bare : (t a : ℕ) (d : List ℕ) → bare_of (record_of t a d) ≡ b
 record_bare t a d = rw (record_line, bare_ended)
 
 module _ (t a : ℕ) (d : List ℕ) (kind : t < 256) (place : a < 65536) (few : length d < 256) (bytes : Bytes d) where
-  pub record-bytes : Bytes (bytes_for t a d)
-  record-bytes zero = few
-  record-bytes (suc zero) = omega arith
-  record-bytes (suc (suc zero)) = omega arith
-  record-bytes (suc (suc (suc zero))) = kind
-  record-bytes (suc (suc (suc (suc j)))) =
+  pub record_bytes : Bytes (bytes_for t a d)
+  record_bytes zero = few
+  record_bytes (suc zero) = omega arith
+  record_bytes (suc (suc zero)) = omega arith
+  record_bytes (suc (suc (suc zero))) = kind
+  record_bytes (suc (suc (suc (suc j)))) =
       bytes_both d _ bytes (bytes_cons (checksum_of (body_of t a d)) [] (omega arith) (λ i. omega arith)) j
 
-  pub record-first : (z : List ℕ) → text_lines (record_of t a d ++ z) ≡ record_of t a d ∷ text_lines z
-  record-first z = rw (record_line, append_assoc, lines_ended (bare_for t a d) z (refl, digits_no_feed _ record-bytes))
+  pub record_first : (z : List ℕ) → text_lines (record_of t a d ++ z) ≡ record_of t a d ∷ text_lines z
+  record_first z = rw (record_line, append_assoc, lines_ended (bare_for t a d) z (refl, digits_no_feed _ record_bytes))

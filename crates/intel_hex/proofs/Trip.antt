@@ -1,5 +1,5 @@
 -- There and back: what is written are data records and an end record, and reading it restores the range. `round_trip` and
--- `text-trip` speak of what the contracts of `write` and `read` allow. Assumes nothing.
+-- `text_trip` speak of what the contracts of `write` and `read` allow. Assumes nothing.
 use Prim.Native.Nat.{ℕ, ◌+◌, ◌≤◌}
 use mathlib.Core.Path.{◌≡◌, refl, ◌∙◌}
 use mathlib.Core.Bool.{Bool, true, false}
@@ -38,19 +38,19 @@ module _ (x : List ℕ) (start n : ℕ) (size : length x ≡ 65536) (bytes : Byt
         bytes = bytes_take n (drop start x) (bytes_drop start x bytes);
       }
 
-  pub only-records : OnlyRecords (text_lines (hex_of start (range_of x start n)))
+  pub only_records : OnlyRecords (text_lines (hex_of start (range_of x start n)))
   unfolding hex_of
-  only-records = only _ start (range_of x start n) held
+  only_records = only _ start (range_of x start n) held
 
   -- its text is read, whatever follows: "What follows the end record is ignored"
-  range-judged : (rest : List ℕ) → judged_from 1 (text_lines (hex_of start (range_of x start n) ++ rest)) ≡ Read
+  range_judged : (rest : List ℕ) → judged_from 1 (text_lines (hex_of start (range_of x start n) ++ rest)) ≡ Read
   unfolding hex_of
-  range-judged rest = rw append_assoc (judged 1 _ start (range_of x start n) rest held)
+  range_judged rest = rw append_assoc (judged 1 _ start (range_of x start n) rest held)
 
-  range-landed : (rest y : List ℕ) → length y ≡ 65536
+  range_landed : (rest y : List ℕ) → length y ≡ 65536
       → landed_from (text_lines (hex_of start (range_of x start n) ++ rest)) y ≡ take start y ++ range_of x start n ++ drop (start + n) y
   unfolding hex_of
-  range-landed rest y e =
+  range_landed rest y e =
       let split = sets-eq (range_of x start n) y start (omega (arith, long)) in
       rw append_assoc (landed _ start (range_of x start n) rest y held) ∙ (rw long at split)
 
@@ -59,8 +59,8 @@ module _ (x : List ℕ) (start n : ℕ) (size : length x ≡ 65536) (bytes : Byt
   unfolding reading_of
   restores rest y y' r e l =
       record {
-        answer = rw (e, range-judged rest) at l.answer;
-        memory = (rw (e, range-judged rest) at l.memory) ∙ range-landed rest y e;
+        answer = rw (e, range_judged rest) at l.answer;
+        memory = (rw (e, range_judged rest) at l.memory) ∙ range_landed rest y e;
       }
 
 -- an answer that is no refusal comes of tests that all pass
@@ -87,8 +87,8 @@ module _ (x z z' y y' : List ℕ) (start n k : ℕ) (r : Reading) (bytes : Bytes
   round_trip l = restores x start n good.0 bytes good.1 (drop k z) y y' r whole (rw text at l)
 
   -- the text alone is read
-  pub text-trip : Reads (take k z') y r y' → Restored x start n y r y'
-  text-trip l =
+  pub text_trip : Reads (take k z') y r y' → Restored x start n y r y'
+  text_trip l =
       let range = range_length x start n (omega (arith, good)) in
       let full : length (hex_of start (range_of x start n)) ≡ k = rw (hex_length, range, good.2) in
       let alone : take k z' ≡ hex_of start (range_of x start n) ++ [] = rw (text, take_at _ _ k full, append-nil) in

@@ -14,22 +14,22 @@ use Rattle.text.proofs.Written.{written_none, written_both}
 
 -- the sum so far and the sum of the bytes that are left
 module _ (s : List ℕ) (i t : ℕ) where
-  pub sum-turn : (b : ℕ) → i < length s → b ≡ get_or s i 0
+  pub sum_turn : (b : ℕ) → i < length s → b ≡ get_or s i 0
       → ((t + b) % 256 + byte_sum (drop (i + 1) s)) % 256 ≡ (t + byte_sum (drop i s)) % 256
   unfolding byte_sum
-  sum-turn b h e = rw (add-one, drop-cons s i 0 h) (omega arith)
+  sum_turn b h e = rw (add-one, drop-cons s i 0 h) (omega arith)
 
-  pub sum-end : length s ≤ i → t < 256 → t ≡ (t + byte_sum (drop i s)) % 256
+  pub sum_end : length s ≤ i → t < 256 → t ≡ (t + byte_sum (drop i s)) % 256
   unfolding byte_sum
-  sum-end h l = rw (drop_of_length-le s h) (omega arith)
+  sum_end h l = rw (drop_of_length-le s h) (omega arith)
 
 -- the text so far and the digits of the bytes that are left
 module _ (s : List ℕ) (i : ℕ) (t : Text) where
-  pub digits-turn : (u : Text) → i < length s → u ≡ written_of (byte_of (get_or s i 0)) t
+  pub digits_turn : (u : Text) → i < length s → u ≡ written_of (byte_of (get_or s i 0)) t
       → written_of (digits_of (drop (i + 1) s)) u ≡ written_of (digits_of (drop i s)) t
   unfolding digits_of
-  digits-turn u h e = rw (e, add-one, drop-cons s i 0 h, written_both)
+  digits_turn u h e = rw (e, add-one, drop-cons s i 0 h, written_both)
 
-  pub digits-end : length s ≤ i → t ≡ written_of (digits_of (drop i s)) t
+  pub digits_end : length s ≤ i → t ≡ written_of (digits_of (drop i s)) t
   unfolding digits_of
-  digits-end h = rw (drop_of_length-le s h, written_none)
+  digits_end h = rw (drop_of_length-le s h, written_none)

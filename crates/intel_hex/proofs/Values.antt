@@ -20,13 +20,13 @@ module _ (d : ℕ) (h : d < 16) where
   unfolding digit_value digit_of
   digit_value_lem = eqb→eq _ _ (below (λ i. eqb (digit_value (digit_of i)) i) 16 tt d h)
 
-  pub digit-hex : is_hex (digit_of d) ≡ true
+  pub digit_hex : is_hex (digit_of d) ≡ true
   unfolding is_hex digit_of
-  digit-hex = T→true _ (below (λ i. is_hex (digit_of i)) 16 tt d h)
+  digit_hex = T→true _ (below (λ i. is_hex (digit_of i)) 16 tt d h)
 
-  pub digit-no-feed : eqb (digit_of d) feed ≡ false
+  pub digit_no_feed : eqb (digit_of d) feed ≡ false
   unfolding digit_of
-  digit-no-feed = not-true _ (T→true _ (below (λ i. not (eqb (digit_of i) feed)) 16 tt d h))
+  digit_no_feed = not-true _ (T→true _ (below (λ i. not (eqb (digit_of i) feed)) 16 tt d h))
 
 -- a byte
 pub pair_back : (b : ℕ) → b < 256 → two_digits (digit_of (b / 16)) (digit_of (b % 16)) ≡ b
@@ -43,4 +43,4 @@ pub digits_hex : (s : List ℕ) → Bytes s → all_hex (digits_of s) ≡ true
 unfolding all_hex digits_of byte_of
 digits_hex [] h = refl
 digits_hex (b ∷ s) h =
-    rw (digit-hex (b / 16) (omega (arith, h 0)), digit-hex (b % 16) (omega arith), digits_hex s (λ j. h (suc j)))
+    rw (digit_hex (b / 16) (omega (arith, h 0)), digit_hex (b % 16) (omega arith), digits_hex s (λ j. h (suc j)))

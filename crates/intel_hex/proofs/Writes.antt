@@ -23,9 +23,9 @@ module _ (x : List ℕ) (start n : ℕ) (z : List ℕ) where
   refused : (reason : Refusal) → writing_of (length x) start n (length z) ≡ Refused reason → Writes x start n z (Refused reason) z
   refused reason e = record { answer = sym e; output = rw e }
 
-  pub no-memory : (length x ≡ 65536 → ⊥) → Writes x start n z (Refused MemorySize) z
+  pub no_memory : (length x ≡ 65536 → ⊥) → Writes x start n z (Refused MemorySize) z
   unfolding writing_of
-  no-memory h = refused MemorySize (rw (ne_eqb _ _ h))
+  no_memory h = refused MemorySize (rw (ne_eqb _ _ h))
 
   module _ (memory : length x ≡ 65536) where
     pub past_end : 65536 < start + n → Writes x start n z (Refused PastEnd) z
@@ -41,8 +41,8 @@ module _ (x : List ℕ) (start n : ℕ) (z : List ℕ) where
       unfolding writing_of
       good h = rw (eq-eqb _ _ memory, le-leb _ _ range, le-leb _ _ h)
 
-      text-length : length (hex_of start (range_of x start n)) ≡ length_for n
-      text-length = hex_length start (range_of x start n) ∙ ap length_for (range_length x start n (omega arith))
+      text_length : length (hex_of start (range_of x start n)) ≡ length_for n
+      text_length = hex_length start (range_of x start n) ∙ ap length_for (range_length x start n (omega arith))
 
       -- the data records and the end record, one after the other, are the text
       pub written : (t : Text) (r : ℕ) (z' : List ℕ) → length_for n ≤ length z
@@ -52,8 +52,8 @@ module _ (x : List ℕ) (start n : ℕ) (z : List ℕ) where
       unfolding hex_of
       written t r z' h p q =
           let text : text_of z' r ≡ written_of (hex_of start (range_of x start n)) (text_of z 0) = rw (range_length x start n (omega arith)) (both _ _ _ p q) in
-          let there = whole _ _ _ _ text (omega (arith, text-length)) in
-          let place : r ≡ length_for n = there.0 ∙ text-length in
+          let there = whole _ _ _ _ text (omega (arith, text_length)) in
+          let place : r ≡ length_for n = there.0 ∙ text_length in
           record {
             answer = sym (good h);
             output = rw (good h, ← place) there.1;

@@ -15,8 +15,8 @@ use Rattle.intel_hex.specs.Write.{records_of}
 use Rattle.intel_hex.specs.Trip.{OnlyRecords}
 use Rattle.text.specs.Bytes.{Bytes}
 use Rattle.text.proofs.Bytes.{bytes_take, bytes_drop}
-use Rattle.intel_hex.proofs.Split.{record-first}
-use Rattle.intel_hex.proofs.Good.{end_line, data-line, data-address, data-data}
+use Rattle.intel_hex.proofs.Split.{record_first}
+use Rattle.intel_hex.proofs.Good.{end_line, data_line, data_address, data_data}
 
 -- stores in two parts
 sets_parts : (n : ℕ) (x l : List ℕ) (i : ℕ) → sets (sets l i (take n x)) (i + n) (drop n x) ≡ sets l i x
@@ -42,21 +42,21 @@ module _ (k a : ℕ) (d : List ℕ) (h : Held (suc k) a d) where
   place : a < 65536
   place = omega (arith, h.some, h.room (omega (arith, h.some)))
 
-  first-bytes : Bytes (take 16 d)
-  first-bytes = bytes_take 16 d h.bytes
+  first_bytes : Bytes (take 16 d)
+  first_bytes = bytes_take 16 d h.bytes
 
   first : (z : List ℕ)
       → text_lines (records_of (suc k) a d ++ z) ≡ record_of 0 a (take 16 d) ∷ text_lines (records_of k (a + 16) (drop 16 d) ++ z)
   unfolding records_of
-  first z = rw (append_assoc, record-first 0 a (take 16 d) (omega arith) place few first-bytes)
+  first z = rw (append_assoc, record_first 0 a (take 16 d) (omega arith) place few first_bytes)
 
-  first-line : line_is (bare_of (record_of 0 a (take 16 d))) ≡ Data
-  first-line = data-line a (take 16 d) place few first-bytes fits
+  first_line : line_is (bare_of (record_of 0 a (take 16 d))) ≡ Data
+  first_line = data_line a (take 16 d) place few first_bytes fits
 
-  first-landed : (y : List ℕ) → landed_of (bare_of (record_of 0 a (take 16 d))) y ≡ sets y a (take 16 d)
+  first_landed : (y : List ℕ) → landed_of (bare_of (record_of 0 a (take 16 d))) y ≡ sets y a (take 16 d)
   unfolding landed_of
-  first-landed y =
-      rw (data-address a (take 16 d) place few first-bytes, data-data a (take 16 d) place few first-bytes)
+  first_landed y =
+      rw (data_address a (take 16 d) place few first_bytes, data_data a (take 16 d) place few first_bytes)
 
   others : Held k (a + 16) (drop 16 d)
   others =
@@ -68,14 +68,14 @@ module _ (k a : ℕ) (d : List ℕ) (h : Held (suc k) a d) where
       }
 
 last : (z : List ℕ) → text_lines (record_of 1 0 [] ++ z) ≡ record_of 1 0 [] ∷ text_lines z
-last = record-first 1 0 [] (omega arith) (omega arith) (omega arith) (λ j. omega arith)
+last = record_first 1 0 [] (omega arith) (omega arith) (omega arith) (λ j. omega arith)
 
 -- all lines
 pub judged : (n k a : ℕ) (d z : List ℕ) → Held k a d
     → judged_from n (text_lines (records_of k a d ++ (record_of 1 0 [] ++ z))) ≡ Read
 unfolding judged_from records_of
 judged n zero a d z h = rw (last, end_line)
-judged n (suc k) a d z h = rw (first k a d h, first-line k a d h) (judged (n + 1) k (a + 16) (drop 16 d) z (others k a d h))
+judged n (suc k) a d z h = rw (first k a d h, first_line k a d h) (judged (n + 1) k (a + 16) (drop 16 d) z (others k a d h))
 
 pub landed : (k a : ℕ) (d z y : List ℕ) → Held k a d
     → landed_from (text_lines (records_of k a d ++ (record_of 1 0 [] ++ z))) y ≡ sets y a d
@@ -83,7 +83,7 @@ unfolding landed_from records_of
 landed zero a [] z y h = rw (last, end_line)
 landed zero a (b ∷ d) z y h = absurd (let no : ⊥ = omega (arith, h.all) in no)
 landed (suc k) a d z y h =
-    rw (first k a d h, first-line k a d h, first-landed k a d h)
+    rw (first k a d h, first_line k a d h, first_landed k a d h)
     (landed k (a + 16) (drop 16 d) z (sets y a (take 16 d)) (others k a d h) ∙ sets_parts 16 d y a)
 
 -- a data record before others
@@ -96,5 +96,5 @@ unfolding records_of text_lines
 only zero a d h = rw (← append-nil (record_of 1 0 []), last) end_line
 only (suc k) a d h =
     rw (first k a d h)
-    (one_more _ (text_lines (records_of k (a + 16) (drop 16 d) ++ record_of 1 0 [])) (first-line k a d h)
+    (one_more _ (text_lines (records_of k (a + 16) (drop 16 d) ++ record_of 1 0 [])) (first_line k a d h)
     (only k (a + 16) (drop 16 d) (others k a d h)))

@@ -1,5 +1,6 @@
 -- The modules of this folder.
 pub mod Every
+pub mod Last
 pub mod Listed
 pub mod Order
 pub mod Tests

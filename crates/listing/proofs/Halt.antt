@@ -15,20 +15,20 @@ suc_less : (k : ℕ) → suc k - 1 ≡ k
 suc_less k = omega arith
 
 module _ (l : List ℕ) (i : ℕ) where
-  pub halt-none : (n : ℕ) → n ≤ 0 → halt_from l i n ≡ i
+  pub halt_none : (n : ℕ) → n ≤ 0 → halt_from l i n ≡ i
   unfolding halt_from
-  halt-none zero h = refl
-  halt-none (suc n) h = absurd (let no : ⊥ = omega arith in no)
+  halt_none zero h = refl
+  halt_none (suc n) h = absurd (let no : ⊥ = omega arith in no)
 
-  pub halt-here : (n : ℕ) → 0 < n → get_or l (8 * i) 0 ≡ 8 → halt_from l i n ≡ i
+  pub halt_here : (n : ℕ) → 0 < n → get_or l (8 * i) 0 ≡ 8 → halt_from l i n ≡ i
   unfolding halt_from
-  halt-here zero h e = absurd (let no : ⊥ = omega arith in no)
-  halt-here (suc n) h e = rw (eq-eqb _ 8 e)
+  halt_here zero h e = absurd (let no : ⊥ = omega arith in no)
+  halt_here (suc n) h e = rw (eq-eqb _ 8 e)
 
-  pub halt-later : (n : ℕ) → 0 < n → (get_or l (8 * i) 0 ≡ 8 → ⊥) → halt_from l (i + 1) (n - 1) ≡ halt_from l i n
+  pub halt_later : (n : ℕ) → 0 < n → (get_or l (8 * i) 0 ≡ 8 → ⊥) → halt_from l (i + 1) (n - 1) ≡ halt_from l i n
   unfolding halt_from
-  halt-later zero h e = absurd (let no : ⊥ = omega arith in no)
-  halt-later (suc n) h e = simp (suc_less, ne_eqb _ 8 e)
+  halt_later zero h e = absurd (let no : ⊥ = omega arith in no)
+  halt_later (suc n) h e = simp (suc_less, ne_eqb _ 8 e)
 
 halt_within : (l : List ℕ) (i n : ℕ) → halt_from l i n ≤ i + n
 unfolding halt_from

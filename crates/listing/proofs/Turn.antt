@@ -27,8 +27,8 @@ module _ (l : List ℕ) (i : ℕ) where
   rows_more (suc n) h = simp suc_less
 
   -- so a turn, which lends the part of the trace that begins with row i, leaves the whole text as it was
-  pub rows-turn : (n : ℕ) (t u : Text) → 0 < n → u ≡ written_of (state_line_of i (take (length l - 8 * i) (drop (8 * i) l))) t
+  pub rows_turn : (n : ℕ) (t u : Text) → 0 < n → u ≡ written_of (state_line_of i (take (length l - 8 * i) (drop (8 * i) l))) t
       → written_of (state_lines_of l (i + 1) (n - 1)) u ≡ written_of (state_lines_of l i n) t
-  rows-turn n t u h e =
+  rows_turn n t u h e =
       let whole = take_all (length l - 8 * i) (drop (8 * i) l) (simp length-drop (omega arith)) in
       rw (e, whole, rows_more n h, written_both)

@@ -6,14 +6,14 @@ use Rattle.laws.proofs.Every.{and_left}
 use Rattle.laws.proofs.Tests.{true→T, and_both, or_right, pick_both}
 use Rattle.alu.specs.declared.flags.Flags.{Flags}
 use Rattle.alu.specs.Flags.{flag_byte_of}
-use Rattle.alu.proofs.Laws.{flags-fixed}
+use Rattle.alu.proofs.Laws.{flags_fixed}
 use Rattle.opcodes.specs.Condition.{met_of}
 use Rattle.opcodes.specs.Instructions.{Instruction, decode}
 use Rattle.opcodes.specs.Cycles.{cycles, count_of, cycling}
 use Rattle.opcodes.specs.Kinds.{is_none}
 use Rattle.opcodes.specs.declared.cycle.Acknowledge.{Acknowledge}
 use Rattle.opcodes.specs.declared.cycle.Acknowledge.TheVariants.{Running, Halted}
-use Rattle.opcodes.proofs.Counts.{states-three}
+use Rattle.opcodes.proofs.Counts.{states_three}
 use Rattle.effect.specs.declared.registers.Registers.{Registers}
 use Rattle.effect.specs.declared.kept.Kept.{Kept}
 use Rattle.effect.specs.Kept.{kept_for}
@@ -88,7 +88,7 @@ follow_well c n m l r s =
     pick_both Well (eqb n 0) (ended_of m) (with_next (Later n 1) m) (λ e. ended_well m r.fixed r.listed)
     (λ (e : eqb n 0 ≡ false).
     let q = s e in
-    let three = states-three m.kept.opcode r.defined (met_of m.kept.opcode m.regs.f) n q.1 in
+    let three = states_three m.kept.opcode r.defined (met_of m.kept.opcode m.regs.f) n q.1 in
     next_well m (Later n 1) (subst (ReadyAt m) (omega arith) r)
     (start_there m.kept.opcode (cycles_in m) n (omega arith) q.1 (omega arith)) tt)
 
@@ -104,7 +104,7 @@ hold_well c n m l o r s =
 -- the byte of any flags has the right fixed bits
 byte_fixed : (x : Flags) → T (fixed_of (flag_byte_of x))
 unfolding fixed_of
-byte_fixed x = rw ((flags-fixed x).0, (flags-fixed x).1, (flags-fixed x).2) tt
+byte_fixed x = rw ((flags_fixed x).0, (flags_fixed x).1, (flags_fixed x).2) tt
 
 -- the flag byte g that an instruction leaves is right, and the instruction has as many cycles under it as under f
 after_flags : (i : Instruction) (f g : ℕ) (met : ℕ → Bool) → T (fixed_of f) → After i f g

@@ -25,23 +25,23 @@ no_first false b e = tt
 
 -- state s of cycle c exists; T1 of the first cycle is no later state
 module _ (op n c s : ℕ) where
-  later-there : 1 ≤ c → c ≤ n → 1 ≤ s → s ≤ states_of (code_of op c) → T (not (eqb c 1 && eqb s 1))
+  later_there : 1 ≤ c → c ≤ n → 1 ≤ s → s ≤ states_of (code_of op c) → T (not (eqb c 1 && eqb s 1))
       → T (there_of op n (Later c s))
   unfolding there_of one_of is_state
-  later-there a b d e g = search (and_both, le→leb)
+  later_there a b d e g = search (and_both, le→leb)
 
-  pub second-there : 1 ≤ c → c ≤ n → 2 ≤ s → s ≤ states_of (code_of op c) → T (there_of op n (Later c s))
-  second-there a b d e =
-      later-there a b (omega arith) e (no_first (eqb c 1) (eqb s 1) (ne_eqb s 1 (λ q. omega arith)))
+  pub second_there : 1 ≤ c → c ≤ n → 2 ≤ s → s ≤ states_of (code_of op c) → T (there_of op n (Later c s))
+  second_there a b d e =
+      later_there a b (omega arith) e (no_first (eqb c 1) (eqb s 1) (ne_eqb s 1 (λ q. omega arith)))
 
-  pub later-each : T (there_of op n (Later c s)) → (1 ≤ c) × (c ≤ n) × (1 ≤ s) × (s ≤ states_of (code_of op c))
+  pub later_each : T (there_of op n (Later c s)) → (1 ≤ c) × (c ≤ n) × (1 ≤ s) × (s ≤ states_of (code_of op c))
   unfolding there_of one_of is_state
-  later-each t = search (leb→le, and_left, and_right)
+  later_each t = search (leb→le, and_left, and_right)
 
 -- T1 of a cycle after the first exists
 pub start_there : (op n c : ℕ) → 2 ≤ c → c ≤ n → 1 ≤ states_of (code_of op c) → T (there_of op n (Later c 1))
 start_there op n c a b d =
-    later-there op n c 1 (omega arith) b (omega arith) d
+    later_there op n c 1 (omega arith) b (omega arith) d
     (rw (ne_eqb c 1 (λ q. omega arith)) tt)
 
 -- m is the number of the cycle after c, of n, or 0

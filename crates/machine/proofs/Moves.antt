@@ -8,7 +8,7 @@ use Rattle.laws.proofs.Tests.{or_left, or_either, pick_both}
 use Rattle.opcodes.specs.Condition.{met_of}
 use Rattle.opcodes.specs.Cycles.{code_of, defined_of, cycling}
 use Rattle.opcodes.specs.Kinds.{waits_of, is_none}
-use Rattle.opcodes.proofs.Counts.{count-some}
+use Rattle.opcodes.proofs.Counts.{count_some}
 use Rattle.effect.specs.Kept.{keep_of}
 use Rattle.machine.specs.declared.record.Position.{Position}
 use Rattle.machine.specs.declared.record.Position.TheVariants.{Fetch, Later, Wait, Hold, Halt, Stop}
@@ -22,7 +22,7 @@ use Rattle.machine.specs.Well.{one_of, there_of, cycles_done, idle_of}
 use Rattle.machine.proofs.Onward.{fetch_third}
 use Rattle.machine.proofs.Parts.{Well, ReadyAt, cycles_in, There, Parts, next_well}
 use Rattle.machine.proofs.Ready.{Names, ready_first}
-use Rattle.machine.proofs.Exists.{one_each, later-each, second-there, after_follows}
+use Rattle.machine.proofs.Exists.{one_each, later_each, second_there, after_follows}
 use Rattle.machine.proofs.Ends.{hold_well, end_well}
 use Rattle.machine.proofs.States.{three_in, wait_well, second_well, onward_well, fetched_well, took_well}
 
@@ -41,7 +41,7 @@ third_well : (v c s : ℕ) (m : Machine) → ReadyAt m (cycles_done (Later c s))
 unfolding from_third cycle_of
 third_well v c s m r t h e =
     let y = cycle_of m.kept.opcode m.regs.f c in
-    let (l, o, f, g) = later-each m.kept.opcode (cycles_in m) c s t in
+    let (l, o, f, g) = later_each m.kept.opcode (cycles_in m) c s t in
     let last : Machine = end_of c y.after m in
     let fourth : Machine = pick (eqb s 4) (onward_of y c 4 m) last in
     pick_both Well (eqb s 3) (onward_of y c 3 (took_of y.code c v m)) fourth
@@ -64,7 +64,7 @@ later_well v c s m r t a =
     let op = m.kept.opcode in
     let y = cycle_of op m.regs.f c in
     let n = cycles_in m in
-    let (l, o, g, h) = later-each op n c s t in
+    let (l, o, g, h) = later_each op n c s t in
     let three = three_in m c (cycles_done (Later c s)) r o in
     let before : s ≤ 3 → ReadyAt m (c - 1) = λ z. subst (ReadyAt m) (early c s z) r in
     let third : Machine = pick (eqb s 3 && eqb c 1) (fetched_of (defined_of v) v m) (from_third y c s v m) in
@@ -72,7 +72,7 @@ later_well v c s m r t a =
     pick_both Well (eqb s 1) (with_next (Later c 2) m) second
     (λ (e : eqb s 1 ≡ true).
     let q = eqb-true s 1 e in
-    next_well m (Later c 2) (before (omega arith)) (second-there op n c 2 l o (omega arith) (omega arith)) tt)
+    next_well m (Later c 2) (before (omega arith)) (second_there op n c 2 l o (omega arith) (omega arith)) tt)
     (λ (e1 : eqb s 1 ≡ false).
     pick_both Well (eqb s 2) (second_of y.code c m) third
     (λ (e : eqb s 2 ≡ true). let q = eqb-true s 2 e in second_well c m l o (before (omega arith)))
@@ -100,9 +100,9 @@ pub moved_well : (p : Position) (v : ℕ) (m : Machine) → Well m → Parts m p
 unfolding moved_of cycle_of there_of cycles_done idle_of cycles_of
 moved_well Fetch v m w p a =
     let op = m.kept.opcode in
-    let some = count-some op p.ready.defined (met_of op m.regs.f) in
+    let some = count_some op p.ready.defined (met_of op m.regs.f) in
     let three = three_in m 1 0 p.ready some in
-    next_well m (Later 1 2) p.ready (second-there op (cycles_in m) 1 2 (omega arith) some (omega arith) (omega arith)) tt
+    next_well m (Later 1 2) p.ready (second_there op (cycles_in m) 1 2 (omega arith) some (omega arith) (omega arith)) tt
 moved_well (Later c s) v m w p a = later_well v c s m p.ready p.there (λ q z. a (λ i. Later (q i) (z i)))
 moved_well (Wait c) v m w p a =
     let code = code_of m.kept.opcode c in

@@ -41,9 +41,9 @@ module _ (f : ℕ) (l : Lines) (k : Kept) (c v : ℕ) (h : 2 ≤ c) where
   later : eqb c 1 ≡ false
   later = ne_eqb c 1 (λ q. omega arith)
 
-  pub ready-took : T (reads_of (code_of k.opcode c)) → Ready f l k (c - 1) → Ready f l (keep_of c v k) c
+  pub ready_took : T (reads_of (code_of k.opcode c)) → Ready f l k (c - 1) → Ready f l (keep_of c v k) c
   unfolding keep_of restart_of
-  ready-took o r =
+  ready_took o r =
       let b = bytes_each k (c - 1) r.bytes in
       record {
         fixed = r.fixed;

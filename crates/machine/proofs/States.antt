@@ -7,7 +7,7 @@ use Rattle.laws.proofs.Tests.{true→T, and_both, pick_both}
 use Rattle.opcodes.specs.Condition.{met_of}
 use Rattle.opcodes.specs.Cycles.{code_of, defined_of}
 use Rattle.opcodes.specs.Kinds.{states_of, waits_of, reads_of}
-use Rattle.opcodes.proofs.Counts.{count-some, states-three, states-four}
+use Rattle.opcodes.proofs.Counts.{count_some, states_three, states_four}
 use Rattle.effect.specs.declared.kept.Kept.{Kept}
 use Rattle.effect.specs.Kept.{keep_of}
 use Rattle.machine.specs.declared.record.Position.{Position}
@@ -19,14 +19,14 @@ use Rattle.machine.specs.Ending.{clear_of, end_of}
 use Rattle.machine.specs.Step.{risen_of, wait_of, second_of, fetched_of, onward_of, took_of}
 use Rattle.machine.specs.Well.{one_of, there_of, cycles_done, idle_of}
 use Rattle.machine.proofs.Parts.{Well, ReadyAt, cycles_in, next_well}
-use Rattle.machine.proofs.Ready.{Names, ready_more, ready-took, ready_first}
-use Rattle.machine.proofs.Exists.{one_all, second-there, after_follows}
+use Rattle.machine.proofs.Ready.{Names, ready_more, ready_took, ready_first}
+use Rattle.machine.proofs.Exists.{one_all, second_there, after_follows}
 use Rattle.machine.proofs.Ends.{clear_well, end_well}
 
 -- cycle c of the machine's opcode, which exists, has three states or more
 pub three_in : (m : Machine) (c d : ℕ) → ReadyAt m d → c ≤ cycles_in m → 3 ≤ states_of (code_of m.kept.opcode c)
 unfolding cycles_of
-three_in m c d r l = states-three m.kept.opcode r.defined (met_of m.kept.opcode m.regs.f) c l
+three_in m c d r l = states_three m.kept.opcode r.defined (met_of m.kept.opcode m.regs.f) c l
 
 -- after T2 or a wait, where c - 1 cycles have read; READY counts only where the cycle waits
 pub wait_well : (b : Bool) (c : ℕ) (m : Machine) → 1 ≤ c → c ≤ cycles_in m → ReadyAt m (c - 1)
@@ -40,7 +40,7 @@ wait_well b c m l o r w =
     (and_both (one_of (cycles_in m) c) (waits_of (code_of m.kept.opcode c)) (one_all (cycles_in m) c l o) (w t)) tt)
     (λ e.
     next_well m (Later c 3) r
-    (second-there m.kept.opcode (cycles_in m) c 3 l o (omega arith) (three_in m c (c - 1) r o)) tt)
+    (second_there m.kept.opcode (cycles_in m) c 3 l o (omega arith) (three_in m c (c - 1) r o)) tt)
 
 -- T2
 pub second_well : (c : ℕ) (m : Machine) → 1 ≤ c → c ≤ cycles_in m → ReadyAt m (c - 1)
@@ -64,7 +64,7 @@ onward_well c s m l o r h g =
     (λ (e : eqb (states_of code) s ≡ false).
     let ne = eqb-false (states_of code) s e in
     next_well m (Later c (s + 1)) (rw (lt-leb (s + 1) 3 (omega arith)) r)
-    (second-there m.kept.opcode (cycles_in m) c (s + 1) l o (omega arith) (omega arith)) tt)
+    (second_there m.kept.opcode (cycles_in m) c (s + 1) l o (omega arith) (omega arith)) tt)
 
 -- T3 of a fetch
 pub fetched_well : (v : ℕ) (m : Machine) → ReadyAt m 0 → Names v m.kept → Well (fetched_of (defined_of v) v m)
@@ -75,8 +75,8 @@ fetched_well v m r a =
     let d = true→T (defined_of v) e in
     next_well (with_kept (keep_of 1 v m.kept) m) (Later 1 4)
     (ready_first m.regs.f m.lines m.kept v 1 (omega arith) d a r)
-    (second-there v (cycles_of v m.regs.f) 1 4 (omega arith) (count-some v d (met_of v m.regs.f)) (omega arith)
-    (states-four v d)) tt)
+    (second_there v (cycles_of v m.regs.f) 1 4 (omega arith) (count_some v d (met_of v m.regs.f)) (omega arith)
+    (states_four v d)) tt)
     (λ e. clear_well m Stop r.fixed r.listed tt)
 
 -- the same as onward_well, where the opcode is known to be op
@@ -98,7 +98,7 @@ took_well v c m l o r e =
     pick_both (λ (k : Kept). Well (onward_of y c 3 (with_kept k m))) (reads_of y.code) (keep_of c v m.kept) m.kept
     (λ (t : reads_of y.code ≡ true).
     onward_as m.kept.opcode c 3 (with_kept (keep_of c v m.kept) m) (rw e) l o
-    (ready-took m.regs.f m.lines m.kept c v (omega arith) (true→T (reads_of (code_of m.kept.opcode c)) t) r)
+    (ready_took m.regs.f m.lines m.kept c v (omega arith) (true→T (reads_of (code_of m.kept.opcode c)) t) r)
     (omega arith) three)
     (λ t.
     onward_as m.kept.opcode c 3 (with_kept m.kept m) refl l o

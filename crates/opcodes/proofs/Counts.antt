@@ -76,22 +76,22 @@ module _ (op : ℕ) (t : T (defined_of op)) where
       (either (some_right op) (below somes_right 256 all_somes op (defined_byte op t)) met)
 
   -- there is a cycle, and there are at most five
-  pub count-some : (met : Bool) → 1 ≤ count_of op met
-  count-some met = leb→le 1 (count_of op met) (and_left (leb 1 (count_of op met)) (leb (count_of op met) 5) (counted met))
+  pub count_some : (met : Bool) → 1 ≤ count_of op met
+  count_some met = leb→le 1 (count_of op met) (and_left (leb 1 (count_of op met)) (leb (count_of op met) 5) (counted met))
 
-  pub count-few : (met : Bool) → count_of op met ≤ 5
-  count-few met = leb→le (count_of op met) 5 (and_right (leb 1 (count_of op met)) (leb (count_of op met) 5) (counted met))
+  pub count_few : (met : Bool) → count_of op met ≤ 5
+  count_few met = leb→le (count_of op met) 5 (and_right (leb 1 (count_of op met)) (leb (count_of op met) 5) (counted met))
 
   -- every cycle has three states or more, and the first has four or more
-  pub states-three : (met : Bool) (c : ℕ) → c ≤ count_of op met → 3 ≤ states_of (code_of op c)
+  pub states_three : (met : Bool) (c : ℕ) → c ≤ count_of op met → 3 ≤ states_of (code_of op c)
   unfolding threes_right three_right
-  states-three met c l =
+  states_three met c l =
       leb→le 3 (states_of (code_of op c))
-      (below (three_right op) 6 (below threes_right 256 all_threes op (defined_byte op t)) c (omega (arith, count-few met)))
+      (below (three_right op) 6 (below threes_right 256 all_threes op (defined_byte op t)) c (omega (arith, count_few met)))
 
-  pub states-four : 4 ≤ states_of (code_of op 1)
+  pub states_four : 4 ≤ states_of (code_of op 1)
   unfolding four_right
-  states-four =
+  states_four =
       leb→le 4 (states_of (code_of op 1))
       (subst (λ (x : Bool). T (not x || leb 4 (states_of (code_of op 1)))) (T→true (defined_of op) t)
       (below four_right 256 all_fours op (defined_byte op t)))

@@ -53,36 +53,36 @@ module _ (op : ℕ) (h : op < 256) where
   parts =
       and_each (codes_right op) (counts_right op) (mark_right op) (at_most_five op) (below right 256 all_right op h)
 
-  pub few-cycles : count_of op true ≤ 5
+  pub few_cycles : count_of op true ≤ 5
   unfolding at_most_five
-  few-cycles = leb→le (count_of op true) 5 parts.3
+  few_cycles = leb→le (count_of op true) 5 parts.3
 
-  first-codes : (c : ℕ) → c < 6 → code_in (entry_of op) c ≡ code_of op c
+  first_codes : (c : ℕ) → c < 6 → code_in (entry_of op) c ≡ code_of op c
   unfolding codes_right code_right
-  first-codes c l = eqb→eq (code_in (entry_of op) c) (code_of op c) (below (code_right op) 6 parts.0 c l)
+  first_codes c l = eqb→eq (code_in (entry_of op) c) (code_of op c) (below (code_right op) 6 parts.0 c l)
 
-  no-sixth : (c : ℕ) → 5 < c → code_of op c ≡ 0
+  no_sixth : (c : ℕ) → 5 < c → code_of op c ≡ 0
   unfolding code_of count_of
-  no-sixth c l =
+  no_sixth c l =
       get_or-eq_default (0 ∷ cycles (decode op) true) 0
-      (let past : suc (length (cycles (decode op) true)) ≤ c = omega (arith, few-cycles) in past)
+      (let past : suc (length (cycles (decode op) true)) ≤ c = omega (arith, few_cycles) in past)
 
   none_in : (p c : ℕ) → 5 < c → code_in p c ≡ 0
   unfolding code_in
   none_in p c l = simp (le-leb 1 c (omega arith), lt-leb c 5 l)
 
   -- the code of any cycle, the number of cycles, and whether the opcode is defined, as its entry has them
-  pub code-in : (c : ℕ) → code_in (entry_of op) c ≡ code_of op c
-  code-in c =
-      ⊎_elim (λ (l : c < 6). first-codes c l)
-      (λ (l : 6 ≤ c). none_in (entry_of op) c (omega arith) ∙ sym (no-sixth c (omega arith)))
+  pub code_in_lem : (c : ℕ) → code_in (entry_of op) c ≡ code_of op c
+  code_in_lem c =
+      ⊎_elim (λ (l : c < 6). first_codes c l)
+      (λ (l : 6 ≤ c). none_in (entry_of op) c (omega arith) ∙ sym (no_sixth c (omega arith)))
       (lt_or_le c 6)
 
-  pub count-in : (met : Bool) → count_in (entry_of op) met ≡ count_of op met
+  pub count_in_lem : (met : Bool) → count_in (entry_of op) met ≡ count_of op met
   unfolding counts_right count_right
-  count-in met =
+  count_in_lem met =
       eqb→eq (count_in (entry_of op) met) (count_of op met) (either (count_right op) parts.1 met)
 
-  pub defined-in : defined_in (entry_of op) ≡ defined_of op
+  pub defined_in_lem : defined_in (entry_of op) ≡ defined_of op
   unfolding mark_right
-  defined-in = same→eq (defined_in (entry_of op)) (defined_of op) parts.2
+  defined_in_lem = same→eq (defined_in (entry_of op)) (defined_of op) parts.2

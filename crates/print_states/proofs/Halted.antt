@@ -12,7 +12,7 @@ use Rattle.machine.specs.Record.{with_lines, stopped_of}
 use Rattle.machine.specs.Step.{stepping, step_of}
 use Rattle.schedule.specs.Levels.{levels_at}
 use Rattle.run.specs.Run.{World, eventful_of, state_of, run_of}
-use Rattle.run.proofs.Laws.{run-plus}
+use Rattle.run.proofs.Laws.{run_plus}
 
 -- halted with the registers r, HOLD and INT down
 pub record Halted (r : Registers) (m : Machine) : Type 0 where
@@ -53,4 +53,4 @@ halted_run r i (suc n) w h =
 -- so a run that is halted after k states has the same registers after any further n
 pub halt_stops : (i : List ℕ) (k n : ℕ) (w : World) (r : Registers) → Halted r (run_of [] i k w).machine
     → (run_of [] i (k + n) w).machine.regs ≡ r
-halt_stops i k n w r h = rw (run-plus [] i k n w) (halted_run r i n (run_of [] i k w) h).regs
+halt_stops i k n w r h = rw (run_plus [] i k n w) (halted_run r i n (run_of [] i k w) h).regs

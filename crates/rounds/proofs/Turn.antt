@@ -24,19 +24,19 @@ pub record Turning (x₀ i o₀ s l₀ : List ℕ) (n calls : ℕ) (m₀ : Machi
 
 -- no run, and one run more
 module _ (s i : List ℕ) (n : ℕ) where
-  rounds-none : (calls : ℕ) (w : World) → calls ≤ 0 → rounds_of s i n calls w ≡ w
+  rounds_none : (calls : ℕ) (w : World) → calls ≤ 0 → rounds_of s i n calls w ≡ w
   unfolding rounds_of
-  rounds-none zero w h = refl
-  rounds-none (suc calls) w h = absurd (let no : ⊥ = omega arith in no)
+  rounds_none zero w h = refl
+  rounds_none (suc calls) w h = absurd (let no : ⊥ = omega arith in no)
 
   suc_less : (k : ℕ) → suc k - 1 ≡ k
   suc_less k = omega arith
 
-  rounds-more : (calls : ℕ) (w : World) → 0 < calls
+  rounds_more : (calls : ℕ) (w : World) → 0 < calls
       → rounds_of s i n (calls - 1) (round_of s i n w) ≡ rounds_of s i n calls w
   unfolding rounds_of
-  rounds-more zero w h = absurd (let no : ⊥ = omega arith in no)
-  rounds-more (suc calls) w h = simp (suc_less calls)
+  rounds_more zero w h = absurd (let no : ⊥ = omega arith in no)
+  rounds_more (suc calls) w h = simp (suc_less calls)
 
 -- an answer carries what the run leaves: the machine and its states
 ended_by : (b : Bool) (r : Ran) → ran_of (pick b (Stopped r) (Done r)) ≡ r
@@ -70,14 +70,14 @@ pub turn : (cur : Machine) (x i o s l : List ℕ) (n left k : ℕ) (a : Answer) 
     → rounds_of s i n (left - 1) (world r.machine x' o' l' k') ≡ rounds_of s i n left (world cur x o l k)
 turn cur x i o s l n left k a r k' x' o' l' h w e q =
     ap (rounds_of s i n (left - 1)) (round_world cur x i o s l n k a r k' x' o' l' w e q)
-    ∙ rounds-more s i n left (world cur x o l k) h
+    ∙ rounds_more s i n left (world cur x o l k) h
 
 -- and no run left is the contract
 pub ending : (x₀ i o₀ s l₀ : List ℕ) (n calls : ℕ) (m₀ : Machine) (x o l : List ℕ) (cur : Machine) (left k : ℕ) → left ≤ 0
     → m₀ ≡ cold_of → Turning x₀ i o₀ s l₀ n calls m₀ x o l cur left k → Rounded calls n x₀ i o₀ s l₀ k x o l
 ending x₀ i o₀ s l₀ n calls m₀ x o l cur left k h cold t =
     let e : world cur x o l k ≡ rounds_of s i n calls (start_of cold_of x₀ o₀ l₀) =
-    sym (rounds-none s i n left (world cur x o l k) h)
+    sym (rounds_none s i n left (world cur x o l k) h)
     ∙ t.runs
     ∙ ap (λ m. rounds_of s i n calls (start_of m x₀ o₀ l₀)) cold
     in

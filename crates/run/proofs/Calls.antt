@@ -13,7 +13,7 @@ use Rattle.run.specs.declared.answer.Verdict.TheVariants as verdict
 use Rattle.run.specs.declared.answer.Answer.{Answer}
 use Rattle.run.specs.Run.{World, state_of, run_of}
 use Rattle.run.specs.Outcome.{start_of, verdict_of, left_of, Outcome}
-use Rattle.run.proofs.Laws.{next_of, run-plus, good_left}
+use Rattle.run.proofs.Laws.{next_of, run_plus, good_left}
 
 -- two worlds differ in the trace at most, and the first has done d states more
 pub record Same (d : ℕ) (w v : World) : Type 0 where
@@ -33,19 +33,19 @@ module _ (s inputs : List ℕ) (d : ℕ) where
         states = omega (arith, e.states);
       }
 
-  same-pick : (b c : Bool) (w v x y : World) → b ≡ c → Same d w v → Same d x y → Same d (pick b w x) (pick c v y)
-  same-pick true true w v x y q e f = e
-  same-pick true false w v x y q e f = absurd (false≢true (sym q))
-  same-pick false true w v x y q e f = absurd (false≢true q)
-  same-pick false false w v x y q e f = f
+  same_pick : (b c : Bool) (w v x y : World) → b ≡ c → Same d w v → Same d x y → Same d (pick b w x) (pick c v y)
+  same_pick true true w v x y q e f = e
+  same_pick true false w v x y q e f = absurd (false≢true (sym q))
+  same_pick false true w v x y q e f = absurd (false≢true q)
+  same_pick false false w v x y q e f = f
 
   -- the same states from both
-  pub run-same : (n : ℕ) (w v : World) → Same d w v → Same d (run_of s inputs n w) (run_of s inputs n v)
+  pub run_same : (n : ℕ) (w v : World) → Same d w v → Same d (run_of s inputs n w) (run_of s inputs n v)
   unfolding run_of
-  run-same zero w v e = e
-  run-same (suc n) w v e =
-      same-pick _ _ w v _ _ (ap (λ (m : Machine). stopped_of m.next) e.machine) e
-      (run-same n _ _ (same_next w v e))
+  run_same zero w v e = e
+  run_same (suc n) w v e =
+      same_pick _ _ w v _ _ (ap (λ (m : Machine). stopped_of m.next) e.machine) e
+      (run_same n _ _ (same_next w v e))
 
 -- the world u as the next call finds it, with the trace l
 abbrev pub onward : World → List ℕ → World
@@ -58,8 +58,8 @@ pub run_calls : (s inputs l : List ℕ) (a b : ℕ) (w : World) → verdict_of w
     → Same (left_of w inputs s a).states (run_of s inputs (a + b) w) (left_of (onward (left_of w inputs s a) l) inputs s b)
 run_calls s inputs l a b w g h =
     let u = left_of w inputs s a in
-    rw (run-plus s inputs a b w, good_left (onward u l) inputs s b h, ← (good_left w inputs s a g))
-    (run-same s inputs u.states b u (onward u l)
+    rw (run_plus s inputs a b w, good_left (onward u l) inputs s b h, ← (good_left w inputs s a g))
+    (run_same s inputs u.states b u (onward u l)
     record { machine = refl; memory = refl; outputs = refl; states = omega arith })
 
 -- two results that the contract allows coincide

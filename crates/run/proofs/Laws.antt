@@ -28,10 +28,10 @@ module _ (s inputs : List ℕ) where
   run_none (suc n) w h = absurd (let no : ⊥ = omega arith in no)
 
   -- a stopped machine does no state
-  pub run-stopped : (n : ℕ) (w : World) → stopped_of w.machine.next ≡ true → run_of s inputs n w ≡ w
+  pub run_stopped : (n : ℕ) (w : World) → stopped_of w.machine.next ≡ true → run_of s inputs n w ≡ w
   unfolding run_of
-  run-stopped zero w h = refl
-  run-stopped (suc n) w h = simp h
+  run_stopped zero w h = refl
+  run_stopped (suc n) w h = simp h
 
   -- one state, and the rest
   pub run_more : (n : ℕ) (w : World) → 0 < n → stopped_of w.machine.next ≡ false
@@ -46,12 +46,12 @@ module _ (s inputs : List ℕ) where
   plus_step false n w x y f e = e
 
   -- a run of m + n states is a run of m states and then of n
-  pub run-plus : (m n : ℕ) (w : World) → run_of s inputs (m + n) w ≡ run_of s inputs n (run_of s inputs m w)
+  pub run_plus : (m n : ℕ) (w : World) → run_of s inputs (m + n) w ≡ run_of s inputs n (run_of s inputs m w)
   unfolding run_of
-  run-plus zero n w = rw zero-add
-  run-plus (suc m) n w =
+  run_plus zero n w = rw zero-add
+  run_plus (suc m) n w =
       rw suc-add
-      (plus_step (stopped_of w.machine.next) n w _ _ (λ h. run-stopped n w h) (run-plus m n (next_of w)))
+      (plus_step (stopped_of w.machine.next) n w _ _ (λ h. run_stopped n w h) (run_plus m n (next_of w)))
 
 module _ (w : World) (inputs s : List ℕ) (n : ℕ) where
   -- a run that passes the tests leaves and answers what its states do
@@ -59,15 +59,15 @@ module _ (w : World) (inputs s : List ℕ) (n : ℕ) where
   unfolding left_of
   good_left e = rw e
 
-  pub good-answer : verdict_of w inputs s n ≡ verdict.Good → answer_of w inputs s n ≡ answered_of (ran_in (run_of s inputs n w))
+  pub good_answer : verdict_of w inputs s n ≡ verdict.Good → answer_of w inputs s n ≡ answered_of (ran_in (run_of s inputs n w))
   unfolding answer_of
-  good-answer e = rw e
+  good_answer e = rw e
 
   -- and one that is refused leaves everything as it was, and no state is done
   pub refused_left : (r : Refusal) → verdict_of w inputs s n ≡ verdict.Refused r → left_of w inputs s n ≡ w
   unfolding left_of
   refused_left r e = rw e
 
-  pub refused-answer : (r : Refusal) → verdict_of w inputs s n ≡ verdict.Refused r → answer_of w inputs s n ≡ Refused r (ran_in w)
+  pub refused_answer : (r : Refusal) → verdict_of w inputs s n ≡ verdict.Refused r → answer_of w inputs s n ≡ Refused r (ran_in w)
   unfolding answer_of
-  refused-answer r e = rw e
+  refused_answer r e = rw e

@@ -14,7 +14,7 @@ use Rattle.machine.specs.Well.{well_of}
 use Rattle.schedule.specs.declared.order.Checked.{Checked}
 use Rattle.schedule.specs.declared.order.Checked.TheVariants as checked
 use Rattle.schedule.specs.Events.{checked_of}
-use Rattle.schedule.proofs.Sorted.{checked-good, ordered-sorted}
+use Rattle.schedule.proofs.Sorted.{checked_good, ordered_sorted}
 use Rattle.run.specs.declared.answer.Refusal.{Refusal}
 use Rattle.run.specs.declared.answer.Refusal.TheVariants.{MemorySize, PortSize, TooManyStates, TraceShort}
 use Rattle.run.specs.declared.answer.Refusal.TheVariants.{IllFormed, ClockRange}
@@ -66,7 +66,7 @@ check_fit m x i o s l n q =
       memory = eqb-true (length x) 65536 good.0;
       inputs = eqb→eq (length i) 256 (and_left (eqb (length i) 256) (eqb (length o) 256) ports);
       outputs = eqb→eq (length o) 256 (and_right (eqb (length i) 256) (eqb (length o) 256) ports);
-      sorted = ordered-sorted s (length s / 6) (checked-good s (schedule_good (checked_of s) good.2)).2;
+      sorted = ordered_sorted s (length s / 6) (checked_good s (schedule_good (checked_of s) good.2)).2;
       few = leb-true n 8192 good.3;
       room = leb-true (8 * n) (length l) good.4;
       time = leb-true (m.clock + n) 4294967295 good.6;

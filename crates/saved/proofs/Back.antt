@@ -21,9 +21,9 @@ bit_range false = refl
 
 -- the machine's registers, levels and clock
 module _ (what : ℕ) (m : Machine) (t : List ℕ) where
-  pub registers-back : registers_in (header_with what m ++ t) ≡ m.regs
+  pub registers_back : registers_in (header_with what m ++ t) ≡ m.regs
   unfolding header_with registers_in word_at
-  registers-back =
+  registers_back =
       λ i.
       record {
         a = m.regs.a;
@@ -39,10 +39,10 @@ module _ (what : ℕ) (m : Machine) (t : List ℕ) where
         inte = bit_back m.regs.inte i;
       }
 
-  pub lines-back : lines_in (header_with what m ++ t) ≡ m.lines
+  pub lines_back : lines_in (header_with what m ++ t) ≡ m.lines
   unfolding header_with lines_in
-  lines-back = refl
+  lines_back = refl
 
-  pub clock-back : long_at (header_with what m ++ t) 14 ≡ m.clock
+  pub clock_back : long_at (header_with what m ++ t) 14 ≡ m.clock
   unfolding header_with long_at
-  clock-back = long_back m.clock
+  clock_back = long_back m.clock

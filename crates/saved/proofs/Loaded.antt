@@ -24,7 +24,7 @@ use Rattle.machine.specs.Well.{fixed_of, levels_listed, there_of, well_of}
 use Rattle.machine.proofs.Ends.{clear_well}
 use Rattle.saved.specs.Header.{fetch_mode, mode_of, between_of, header_with, header_of, saved_of}
 use Rattle.saved.specs.Fields.{word_at, long_at, registers_in, lines_in, position_of, machine_in, ports_in, memory_in, in_range}
-use Rattle.saved.proofs.Numbers.{word_low, word-high, long-first, long-second, long-third, long-last}
+use Rattle.saved.proofs.Numbers.{word_low, word_high, long_first, long_second, long_third, long_last}
 
 -- each field inside its range
 pub record Ranged (s : List ℕ) : Type 0 where
@@ -88,9 +88,9 @@ module _ (s : List ℕ) (size : length s ≡ 65816) (bytes : Bytes s) where
   byte i h = bytes i (omega arith)
 
   -- the header, byte by byte
-  loaded-heads : Ranged s → header_of (machine_in s) ≡ tabulate (λ i. get_or s i 0) 24 0
+  loaded_heads : Ranged s → header_of (machine_in s) ≡ tabulate (λ i. get_or s i 0) 24 0
   unfolding header_of header_with machine_in registers_in lines_in word_at long_at
-  loaded-heads r =
+  loaded_heads r =
       let sp = byte 8 (omega arith) in
       let pc = byte 10 (omega arith) in
       let at : ℕ → ℕ = λ i. get_or s i 0 in
@@ -107,15 +107,15 @@ module _ (s : List ℕ) (size : length s ≡ 65816) (bytes : Bytes s) where
       ∷ at 6
       ∷ at 7
       ∷ word_low (at 8) (at 9) sp i
-      ∷ word-high (at 8) (at 9) sp i
+      ∷ word_high (at 8) (at 9) sp i
       ∷ word_low (at 10) (at 11) pc i
-      ∷ word-high (at 10) (at 11) pc i
+      ∷ word_high (at 10) (at 11) pc i
       ∷ inte_back (at 12) (leb→le (at 12) 1 r.inte) i
       ∷ mode_back (at 13) (leb→le (at 13) 2 r.mode) i
-      ∷ long-first (at 14) (at 15) (at 16) (at 17) one two three i
-      ∷ long-second (at 14) (at 15) (at 16) (at 17) one two three i
-      ∷ long-third (at 14) (at 15) (at 16) (at 17) one two three i
-      ∷ long-last (at 14) (at 15) (at 16) (at 17) one two three i
+      ∷ long_first (at 14) (at 15) (at 16) (at 17) one two three i
+      ∷ long_second (at 14) (at 15) (at 16) (at 17) one two three i
+      ∷ long_third (at 14) (at 15) (at 16) (at 17) one two three i
+      ∷ long_last (at 14) (at 15) (at 16) (at 17) one two three i
       ∷ at 18
       ∷ at 19
       ∷ at 20
@@ -124,9 +124,9 @@ module _ (s : List ℕ) (size : length s ≡ 65816) (bytes : Bytes s) where
       ∷ sym (eqb→eq (at 23) 0 r.third) i
       ∷ []
 
-  pub loaded-form : Ranged s → saved_of (machine_in s) (ports_in s) (memory_in s) ≡ s
+  pub loaded_form : Ranged s → saved_of (machine_in s) (ports_in s) (memory_in s) ≡ s
   unfolding saved_of
-  loaded-form r =
-      ap (λ (h : List ℕ). h ++ ports_in s ++ memory_in s) (loaded-heads r ∙ heads s (omega arith))
+  loaded_form r =
+      ap (λ (h : List ℕ). h ++ ports_in s ++ memory_in s) (loaded_heads r ∙ heads s (omega arith))
       ∙ ap (λ (l : List ℕ). l ++ drop 280 s) (sym (take-add 24 256 s))
       ∙ take-append-drop 280 s

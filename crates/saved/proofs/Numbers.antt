@@ -15,18 +15,18 @@ module _ (a b : ℕ) (e : a < 256) where
   pub word_low : (a + 256 * b) % 256 ≡ a
   word_low = omega arith
 
-  pub word-high : (a + 256 * b) / 256 ≡ b
-  word-high = omega arith
+  pub word_high : (a + 256 * b) / 256 ≡ b
+  word_high = omega arith
 
 module _ (a b c d : ℕ) (e : a < 256) (f : b < 256) (g : c < 256) where
-  pub long-first : (a + 256 * b + 65536 * c + 16777216 * d) % 256 ≡ a
-  long-first = omega arith
+  pub long_first : (a + 256 * b + 65536 * c + 16777216 * d) % 256 ≡ a
+  long_first = omega arith
 
-  pub long-second : (a + 256 * b + 65536 * c + 16777216 * d) / 256 % 256 ≡ b
-  long-second = omega arith
+  pub long_second : (a + 256 * b + 65536 * c + 16777216 * d) / 256 % 256 ≡ b
+  long_second = omega arith
 
-  pub long-third : (a + 256 * b + 65536 * c + 16777216 * d) / 65536 % 256 ≡ c
-  long-third = omega arith
+  pub long_third : (a + 256 * b + 65536 * c + 16777216 * d) / 65536 % 256 ≡ c
+  long_third = omega arith
 
-  pub long-last : (a + 256 * b + 65536 * c + 16777216 * d) / 16777216 ≡ d
-  long-last = omega arith
+  pub long_last : (a + 256 * b + 65536 * c + 16777216 * d) / 16777216 ≡ d
+  long_last = omega arith

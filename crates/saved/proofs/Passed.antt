@@ -81,18 +81,18 @@ loadable_good s x o l = rw (l.size, l.range, l.memory, l.ports)
 
 -- saving and loading by their verdict
 module _ (m : Machine) where
-  pub saved-good : (x o z z' : List ℕ) → save_verdict m (length x) (length o) (length z) ≡ Good → z' ≡ saved_of m o x
+  pub saved_good : (x o z z' : List ℕ) → save_verdict m (length x) (length o) (length z) ≡ Good → z' ≡ saved_of m o x
       → Saves m x o z Saved z'
-  saved-good x o z z' v e = record { answer = rw v; out = rw v e }
+  saved_good x o z z' v e = record { answer = rw v; out = rw v e }
 
-  pub saved-refused : (x o z : List ℕ) (r : Refusal) → save_verdict m (length x) (length o) (length z) ≡ Refused r
+  pub saved_refused : (x o z : List ℕ) (r : Refusal) → save_verdict m (length x) (length o) (length z) ≡ Refused r
       → Saves m x o z (saving.Refused r) z
-  saved-refused x o z r v = record { answer = rw v; out = rw v }
+  saved_refused x o z r v = record { answer = rw v; out = rw v }
 
-  pub loaded-good : (s x o x' o' : List ℕ) (n : Machine) → load_verdict s (length x) (length o) ≡ Good → n ≡ machine_in s
+  pub loaded_good : (s x o x' o' : List ℕ) (n : Machine) → load_verdict s (length x) (length o) ≡ Good → n ≡ machine_in s
       → x' ≡ memory_in s → o' ≡ ports_in s → Loads m s x o (Loaded n) x' o'
-  loaded-good s x o x' o' n v e p q = record { answer = rw v (ap (λ (k : Machine). Loaded k) e); memory = rw v p; outputs = rw v q }
+  loaded_good s x o x' o' n v e p q = record { answer = rw v (ap (λ (k : Machine). Loaded k) e); memory = rw v p; outputs = rw v q }
 
-  pub loaded-refused : (s x o : List ℕ) (r : Refusal) → load_verdict s (length x) (length o) ≡ Refused r
+  pub loaded_refused : (s x o : List ℕ) (r : Refusal) → load_verdict s (length x) (length o) ≡ Refused r
       → Loads m s x o (loading.Refused r m) x o
-  loaded-refused s x o r v = record { answer = rw v; memory = rw v; outputs = rw v }
+  loaded_refused s x o r v = record { answer = rw v; memory = rw v; outputs = rw v }

@@ -15,26 +15,26 @@ use Rattle.machine.specs.Well.{well_of}
 use Rattle.machine.proofs.Parts.{parts_of}
 use Rattle.saved.specs.Header.{mode_of, between_of, header_with, header_of, saved_of}
 use Rattle.saved.specs.Fields.{lines_in, machine_in, ports_in, memory_in, in_range}
-use Rattle.saved.proofs.Back.{bit_range, registers-back, lines-back, clock-back}
+use Rattle.saved.proofs.Back.{bit_range, registers_back, lines_back, clock_back}
 use Rattle.saved.proofs.Between.{between_kept, between_next}
 
 module _ (m : Machine) (o x : List ℕ) where
-  pub saved-machine : well_of m ≡ true → between_of m ≡ true → machine_in (saved_of m o x) ≡ m
+  pub saved_machine : well_of m ≡ true → between_of m ≡ true → machine_in (saved_of m o x) ≡ m
   unfolding saved_of header_of header_with machine_in
-  saved-machine w b =
+  saved_machine w b =
       let mode = mode_of m.kept m.next in
       λ i.
       record {
-        regs = registers-back mode m (o ++ x) i;
+        regs = registers_back mode m (o ++ x) i;
         kept = sym (between_kept m w b) i;
-        lines = lines-back mode m (o ++ x) i;
-        clock = clock-back mode m (o ++ x) i;
+        lines = lines_back mode m (o ++ x) i;
+        clock = clock_back mode m (o ++ x) i;
         next = between_next m w b i;
       }
 
-  pub saved-range : well_of m ≡ true → between_of m ≡ true → in_range (saved_of m o x) ≡ true
+  pub saved_range : well_of m ≡ true → between_of m ≡ true → in_range (saved_of m o x) ≡ true
   unfolding saved_of header_of header_with in_range lines_in between_of
-  saved-range w b =
+  saved_range w b =
       let p = parts_of m (true→T (well_of m) w) in
       let mode = mode_of m.kept m.next in
       let moded = true→T (leb mode 2) (le-leb mode 2 (omega (arith, ltb-true mode 3 b))) in
@@ -43,14 +43,14 @@ module _ (m : Machine) (o x : List ℕ) where
       let listed = p.ready.listed in
       T→true _ (search and_both depth 8)
 
-  pub saved-size : length o ≡ 256 → length x ≡ 65536 → length (saved_of m o x) ≡ 65816
+  pub saved_size : length o ≡ 256 → length x ≡ 65536 → length (saved_of m o x) ≡ 65816
   unfolding saved_of header_of header_with
-  saved-size e f = simp length-append (omega arith)
+  saved_size e f = simp length-append (omega arith)
 
-  pub saved-ports : length o ≡ 256 → ports_in (saved_of m o x) ≡ o
+  pub saved_ports : length o ≡ 256 → ports_in (saved_of m o x) ≡ o
   unfolding saved_of header_of header_with
-  saved-ports e = take_at o x 256 e
+  saved_ports e = take_at o x 256 e
 
-  pub saved-memory : length o ≡ 256 → memory_in (saved_of m o x) ≡ x
+  pub saved_memory : length o ≡ 256 → memory_in (saved_of m o x) ≡ x
   unfolding saved_of header_of header_with
-  saved-memory e = drop_at o x 256 e
+  saved_memory e = drop_at o x 256 e

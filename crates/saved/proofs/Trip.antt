@@ -17,8 +17,8 @@ use Rattle.saved.specs.Fields.{machine_in, ports_in, memory_in}
 use Rattle.saved.specs.Check.{save_verdict, load_verdict}
 use Rattle.saved.specs.Outcome.{saving_by, loading_by, Saves, Loads}
 use Rattle.saved.proofs.Passed.{Savable, Loadable, save_passed, load_passed, savable_good, loadable_good}
-use Rattle.saved.proofs.Saved.{saved-machine, saved-range, saved-size, saved-ports, saved-memory}
-use Rattle.saved.proofs.Loaded.{Bytes, ranged, loaded_well, loaded_between, loaded-form}
+use Rattle.saved.proofs.Saved.{saved_machine, saved_range, saved_size, saved_ports, saved_memory}
+use Rattle.saved.proofs.Loaded.{Bytes, ranged, loaded_well, loaded_between, loaded_form}
 
 -- an answer that is no refusal comes of a good verdict
 saved_was_good : (v : Verdict) → Saved ≡ saving_by v → v ≡ verdict.Good
@@ -39,8 +39,8 @@ saved_loadable : (m : Machine) (x o : List ℕ) (l a b : ℕ) → Savable m (len
     → Loadable (saved_of m o x) a b
 saved_loadable m x o l a b can p q =
     record {
-      size = saved-size m o x can.ports can.memory;
-      range = saved-range m o x can.well can.between;
+      size = saved_size m o x can.ports can.memory;
+      range = saved_range m o x can.well can.between;
       memory = p;
       ports = q;
     }
@@ -65,9 +65,9 @@ saved_loads m n x o z z' x₁ o₁ x' o' r s p q l =
     let can = save_passed m (length x) (length o) (length z) v in
     let form : z' ≡ saved_of m o x = rw v at s.out in
     let good = loadable_good _ _ _ (saved_loadable m x o (length z) (length x₁) (length o₁) can p q) in (
-      (rw (form, good) at l.answer) ∙ ap (λ (k : Machine). Loaded k) (saved-machine m o x can.well can.between),
-      (rw (form, good) at l.memory) ∙ saved-memory m o x can.ports,
-      (rw (form, good) at l.outputs) ∙ saved-ports m o x can.ports,
+      (rw (form, good) at l.answer) ∙ ap (λ (k : Machine). Loaded k) (saved_machine m o x can.well can.between),
+      (rw (form, good) at l.memory) ∙ saved_memory m o x can.ports,
+      (rw (form, good) at l.outputs) ∙ saved_ports m o x can.ports,
     )
 
 -- what was loaded from the form s, whose elements are bytes, saved into an output of the right size: the form s
@@ -80,5 +80,5 @@ loaded_saves m n s x o x' o' z z' r b l p t =
     let ports : o' ≡ ports_in s = rw g.good at l.outputs in
     let good = savable_good _ _ _ _ (loaded_savable s (length x) (length o) (length z) can p) in (
       rw (g.machine, memory, ports, good) at t.answer,
-      (rw (g.machine, memory, ports, good) at t.out) ∙ loaded-form s can.size b (ranged s can.range),
+      (rw (g.machine, memory, ports, good) at t.out) ∙ loaded_form s can.size b (ranged s can.range),
     )

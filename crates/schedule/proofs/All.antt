@@ -14,10 +14,10 @@ module _ (test : ℕ → Bool) where
   all_go zero i h e = absurd (let no : ⊥ = omega arith in no)
   all_go (suc n) i h e = simp (e, suc_less n)
 
-  pub all-stop : (n i : ℕ) → 0 < n → test i ≡ false → all test n i ≡ false
+  pub all_stop : (n i : ℕ) → 0 < n → test i ≡ false → all test n i ≡ false
   unfolding all
-  all-stop zero i h e = absurd (let no : ⊥ = omega arith in no)
-  all-stop (suc n) i h e = simp e
+  all_stop zero i h e = absurd (let no : ⊥ = omega arith in no)
+  all_stop (suc n) i h e = simp e
 
   pub all_end : (n i : ℕ) → n ≤ 0 → all test n i ≡ true
   unfolding all

@@ -48,18 +48,18 @@ good false b c e = absurd (no e (inl refl))
 
 module _ (s : List ℕ) where
   -- a good schedule has passed all three tests
-  pub checked-good :
+  pub checked_good :
       checked_of s ≡ Good
       → ((eqb (length s % 6) 0 && leb (length s) 6000) ≡ true)
       × (all (listed_at s) (length s / 6) 0 ≡ true)
       × (ordered_of s (length s / 6) ≡ true)
   unfolding checked_of
-  checked-good e = good _ _ _ e
+  checked_good e = good _ _ _ e
 
   -- an event that may follow has no lower number
-  follows-le : (i : ℕ) → follows_of s i ≡ true → state_number_of s i ≤ state_number_of s (i + 1)
+  follows_le : (i : ℕ) → follows_of s i ≡ true → state_number_of s i ≤ state_number_of s (i + 1)
   unfolding follows_of
-  follows-le i e =
+  follows_le i e =
       ⊎_elim
       (λ (h : state_number_of s (i + 1) < state_number_of s i).
       absurd
@@ -74,13 +74,13 @@ module _ (s : List ℕ) where
   climbs n i (suc d) o h =
       let a : state_number_of s i ≤ state_number_of s (i + d) = climbs n i d o (omega arith) in
       let b : state_number_of s (i + d) ≤ state_number_of s (i + d + 1) =
-      follows-le (i + d) (all_at (follows_of s) (n - 1) 0 (i + d) o (omega arith) (omega arith))
+      follows_le (i + d) (all_at (follows_of s) (n - 1) 0 (i + d) o (omega arith) (omega arith))
       in
       let q : i + d + 1 ≡ i + suc d = omega arith in
       le_trans a (rw q at b)
 
   -- the numbers of events in order never fall
-  pub ordered-sorted : (n : ℕ) → ordered_of s n ≡ true → (i j : ℕ) → i ≤ j → j < n → state_number_of s i ≤ state_number_of s j
-  ordered-sorted n o i j h l =
+  pub ordered_sorted : (n : ℕ) → ordered_of s n ≡ true → (i j : ℕ) → i ≤ j → j < n → state_number_of s i ≤ state_number_of s j
+  ordered_sorted n o i j h l =
       let q : i + (j - i) ≡ j = omega arith in
       rw q at (climbs n i (j - i) o (omega arith))

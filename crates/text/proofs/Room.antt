@@ -19,20 +19,20 @@ sets_out l i (c ∷ s) h = rw (set_out l i c h) (sets_out l (suc i) s (omega ari
 
 -- the place after a character, where there is room and where there is none
 module _ (c : ℕ) (t : Text) where
-  put-place : t.place < length t.bytes → (put_of c t).place ≡ suc t.place
+  put_place : t.place < length t.bytes → (put_of c t).place ≡ suc t.place
   unfolding put_of
-  put-place h = rw (lt-ltb _ _ h) (add-one t.place)
+  put_place h = rw (lt-ltb _ _ h) (add-one t.place)
 
   put_full : length t.bytes ≤ t.place → (put_of c t).place ≡ t.place
   unfolding put_of
   put_full h = rw (le-ltb _ _ h)
 
-  put-bytes : (put_of c t).bytes ≡ set t.bytes t.place c
+  put_bytes : (put_of c t).bytes ≡ set t.bytes t.place c
   unfolding put_of
-  put-bytes = refl
+  put_bytes = refl
 
-  put-length : length (put_of c t).bytes ≡ length t.bytes
-  put-length = ap length put-bytes ∙ length-set t.bytes t.place c
+  put_length : length (put_of c t).bytes ≡ length t.bytes
+  put_length = ap length put_bytes ∙ length-set t.bytes t.place c
 
 -- the bytes: the characters are stored from the place on, as far as there are bytes
 pub written_bytes : (s : List ℕ) (t : Text) → (written_of s t).bytes ≡ sets t.bytes t.place s
@@ -40,8 +40,8 @@ unfolding written_of
 written_bytes [] t = refl
 written_bytes (c ∷ s) t =
     written_bytes s (put_of c t)
-    ∙ ap (λ l. sets l (put_of c t).place s) (put-bytes c t)
-    ∙ ⊎_elim (λ (h : t.place < length t.bytes). rw (put-place c t h))
+    ∙ ap (λ l. sets l (put_of c t).place s) (put_bytes c t)
+    ∙ ⊎_elim (λ (h : t.place < length t.bytes). rw (put_place c t h))
     (λ (h : length t.bytes ≤ t.place).
     sets_out _ _ s (rw (length-set t.bytes t.place c, put_full c t h) h)
     ∙ sym (sets_out _ _ s (rw (length-set t.bytes t.place c) (omega arith))))
@@ -53,19 +53,19 @@ pub written_place : (s : List ℕ) (t : Text) → t.place + length s ≤ length 
 unfolding written_of
 written_place [] t h = omega arith
 written_place (c ∷ s) t h =
-    let next = put-place c t (omega arith) in
-    written_place s (put_of c t) (omega (arith, next, put-length c t)) ∙ omega (arith, next)
+    let next = put_place c t (omega arith) in
+    written_place s (put_of c t) (omega (arith, next, put_length c t)) ∙ omega (arith, next)
 
 pub written_within : (s : List ℕ) (t : Text) → t.place ≤ length t.bytes → (written_of s t).place ≤ length t.bytes
 unfolding written_of
 written_within [] t h = h
 written_within (c ∷ s) t h =
     let here : (put_of c t).place ≤ length t.bytes =
-    ⊎_elim (λ (l : t.place < length t.bytes). omega (arith, put-place c t l))
+    ⊎_elim (λ (l : t.place < length t.bytes). omega (arith, put_place c t l))
     (λ (l : length t.bytes ≤ t.place). omega (arith, put_full c t l))
     (lt_or_le t.place (length t.bytes))
     in
-    omega (arith, put-length c t, written_within s (put_of c t) (omega (arith, here, put-length c t)))
+    omega (arith, put_length c t, written_within s (put_of c t) (omega (arith, here, put_length c t)))
 
 -- a text that fits is there whole, and what stands before and after it is as it was
 pub fits : (s out : List ℕ) (at : ℕ) → at + length s ≤ length out

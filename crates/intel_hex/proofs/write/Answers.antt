@@ -1,11 +1,11 @@
 -- `intel_hex::write`: each test of it has a law (Writes).
 use Rattle.std.proofs.Common.{arith}
 use Rattle.intel_hex.specs.Write.{length_for}
-use Rattle.intel_hex.proofs.Writes.{no-memory, past_end, no_room, written}
+use Rattle.intel_hex.proofs.Writes.{no_memory, past_end, no_room, written}
 use Rattle.intel_hex.proofs.write.Goals as goal
 
 pub returns-then-memory-ne65536 : goal.returns-then-memory-ne65536
-returns-then-memory-ne65536 c = no-memory _ _ _ _ c.if-memory-ne65536.true
+returns-then-memory-ne65536 c = no_memory _ _ _ _ c.if-memory-ne65536.true
 
 pub returns-then-start-gt65536 : goal.returns-then-start-gt65536
 returns-then-start-gt65536 c = past_end _ _ _ _ c.if-memory-ne65536.false (omega arith)

@@ -1,4 +1,4 @@
--- `listing::state_lines`: the loop keeps the whole text (Turn, `rows-turn`); the measure is the lines that are left.
+-- `listing::state_lines`: the loop keeps the whole text (Turn, `rows_turn`); the measure is the lines that are left.
 use Rattle.std.proofs.Common.{◌≡◌, ◌+◌, length}
 use Rattle.text.specs.Text.{text_of, written_of}
 use Rattle.listing.specs.Listing.{state_lines_of}

@@ -4,7 +4,7 @@ use mathlib.Core.Path.{sym, ap, ◌∙◌}
 use native.Mathlib.Omega.{arith}
 use Rattle.run.specs.Run.{World}
 use Rattle.run.specs.Outcome.{start_of, verdict_of, answered_of}
-use Rattle.run.proofs.Laws.{good_left, good-answer, refused_left, refused-answer}
+use Rattle.run.proofs.Laws.{good_left, good_answer, refused_left, refused_answer}
 use Rattle.run.proofs.Passed.{check_fit}
 use Rattle.run.proofs.run.Goals as goal
 
@@ -34,7 +34,7 @@ returns-in-Good c =
       answer =
           c.answered.ensures
           ∙ ap answered_of c.go.ensures.ran
-          ∙ sym (good-answer w c.args.inputs.now c.args.s.now c.args.asked.states good);
+          ∙ sym (good_answer w c.args.inputs.now c.args.s.now c.args.asked.states good);
       memory = c.go.ensures.memory ∙ ap (λ (w : World). w.memory) left;
       outputs = c.go.ensures.outputs ∙ ap (λ (w : World). w.outputs) left;
       trace = c.go.ensures.trace ∙ ap (λ (w : World). w.trace) left;
@@ -46,7 +46,7 @@ returns-in-Refused c =
     let refused = sym c.in-Refused.ensures in
     let left = sym (refused_left _ _ _ _ _ refused) in
     record {
-      answer = sym (refused-answer _ _ _ _ _ refused);
+      answer = sym (refused_answer _ _ _ _ _ refused);
       memory = ap (λ (w : World). w.memory) left;
       outputs = ap (λ (w : World). w.outputs) left;
       trace = ap (λ (w : World). w.trace) left;

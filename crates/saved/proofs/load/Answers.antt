@@ -2,7 +2,7 @@
 -- Assumes nothing.
 use mathlib.Core.Path.{sym}
 use native.Mathlib.Omega.{arith}
-use Rattle.saved.proofs.Passed.{load_passed, loaded-good, loaded-refused}
+use Rattle.saved.proofs.Passed.{load_passed, loaded_good, loaded_refused}
 use Rattle.saved.proofs.load.Goals as goal
 
 pub read-requires : goal.read-requires
@@ -17,11 +17,11 @@ machine_in-requires c =
 
 pub returns-in-Good : goal.returns-in-Good
 returns-in-Good c =
-    loaded-good _ _ _ _ _ _ _ (sym c.in-Good.ensures)
+    loaded_good _ _ _ _ _ _ _ (sym c.in-Good.ensures)
     c.machine_in.ensures
     c.read.ensures.0
     c.read.ensures.1
 
 pub returns-in-Refused : goal.returns-in-Refused
 returns-in-Refused c =
-    loaded-refused _ _ _ _ _ (sym c.in-Refused.ensures)
+    loaded_refused _ _ _ _ _ (sym c.in-Refused.ensures)

@@ -20,9 +20,9 @@ all_right : T (every right 256)
 unfolding rows set right parity_of
 all_right = tt
 
-right-at : (v h : ℕ) → v < 256 → v / 64 ≡ h → set h (v % 64) ≡ parity_of v
+right_at : (v h : ℕ) → v < 256 → v / 64 ≡ h → set h (v % 64) ≡ parity_of v
 unfolding right
-right-at v h l e = rw e at (same→eq (set (v / 64) (v % 64)) (parity_of v) (below right 256 all_right v l))
+right_at v h l e = rw e at (same→eq (set (v / 64) (v % 64)) (parity_of v) (below right 256 all_right v l))
 
 pub parity_spec : {M : Type 1} → statement M
 unfolding rows set
@@ -30,7 +30,7 @@ parity_spec =
     tie.close
     (tie.spec (search rules) (search rules) (search rules) (search rules) (search rules) (search rules) (search rules)
     (search rules)
-    (λ c. right-at _ 0 c.ranges.v.fits c.in-0.is)
-    (λ c. right-at _ 1 c.ranges.v.fits c.in-1.is)
-    (λ c. right-at _ 2 c.ranges.v.fits c.in-2.is)
-    (λ c. right-at _ 3 c.ranges.v.fits (omega arith)))
+    (λ c. right_at _ 0 c.ranges.v.fits c.in-0.is)
+    (λ c. right_at _ 1 c.ranges.v.fits c.in-1.is)
+    (λ c. right_at _ 2 c.ranges.v.fits c.in-2.is)
+    (λ c. right_at _ 3 c.ranges.v.fits (omega arith)))

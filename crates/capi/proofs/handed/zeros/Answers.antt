@@ -4,7 +4,7 @@
 use mathlib.Core.Path.{sym, ◌∙◌}
 use native.Mathlib.Omega.{arith}
 use borrow.Author.Tests.{eq-eqb, ne_eqb}
-use Rattle.schedule.proofs.All.{all_go, all-stop, all_end}
+use Rattle.schedule.proofs.All.{all_go, all_stop, all_end}
 use Rattle.capi.specs.Handed.{zero_at}
 use Rattle.capi.proofs.handed.zeros.Goals as goal
 
@@ -19,7 +19,7 @@ loop-left-preserved c = (
 pub returns-else-z-at-eq0 : goal.returns-else-z-at-eq0
 returns-else-z-at-eq0 c =
     sym
-    (all-stop (zero_at c.args.z.now) _ _ c.loop-left-test.true
+    (all_stop (zero_at c.args.z.now) _ _ c.loop-left-test.true
     (ne_eqb _ _ c.if-z-at-eq0.false))
     ∙ c.loop-left.invariant.1
 

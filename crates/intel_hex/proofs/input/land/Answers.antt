@@ -1,34 +1,34 @@
 -- `intel_hex::input::land`: a turn of the loop puts a good line's data into memory, and it ends at the end record or where no line
 -- is left (Lined, Judged).
 use Rattle.std.proofs.Common.{sym, ◌∙◌, arith}
-use Rattle.intel_hex.proofs.Lined.{line_on, line-in, line_at, lines_none}
-use Rattle.intel_hex.proofs.Judged.{good-formed, good-end, good-data, good-landed, good-next, landed_none}
+use Rattle.intel_hex.proofs.Lined.{line_on, line_in, line_at, lines_none}
+use Rattle.intel_hex.proofs.Judged.{good_formed, good_end, good_data, good_landed, good_next, landed_none}
 use Rattle.intel_hex.proofs.input.land.Goals as goal
 
 pub slice_bounds-ends-end : goal.slice_bounds-ends-end
-slice_bounds-ends-end c = line-in c.args.text.now c.loop-at.at _ c.loop-at-test.true c.line_end-end.ensures
+slice_bounds-ends-end c = line_in c.args.text.now c.loop-at.at _ c.loop-at-test.true c.line_end-end.ensures
 
 pub ends-requires : goal.ends-requires
 ends-requires c =
-    good-formed _ _ _ (line_at c.args.text.now c.loop-at.at _ c.loop-at-test.true c.line_end-end.ensures) c.loop-at.invariant.2
+    good_formed _ _ _ (line_at c.args.text.now c.loop-at.at _ c.loop-at-test.true c.line_end-end.ensures) c.loop-at.invariant.2
 
 pub returns-then-ends : goal.returns-then-ends
 returns-then-ends c =
-    good-end _ _ _ (line_at c.args.text.now c.loop-at.at _ c.loop-at-test.true c.line_end-end.ensures) c.loop-at.invariant.2 _
+    good_end _ _ _ (line_at c.args.text.now c.loop-at.at _ c.loop-at-test.true c.line_end-end.ensures) c.loop-at.invariant.2 _
     (sym c.if-ends.ensures)
     ∙ c.loop-at.invariant.3
 
 pub land_line-requires : goal.land_line-requires
 land_line-requires c = (
   c.loop-at.invariant.1 ∙ c.requires.0,
-  good-data _ _ _ (line_at c.args.text.now c.loop-at.at _ c.loop-at-test.true c.line_end-end.ensures) c.loop-at.invariant.2
+  good_data _ _ _ (line_at c.args.text.now c.loop-at.at _ c.loop-at-test.true c.line_end-end.ensures) c.loop-at.invariant.2
       (sym c.if-ends.ensures),
 )
 
 pub loop-at-smaller : goal.loop-at-smaller
 loop-at-smaller c =
     let on = line_on c.args.text.now c.loop-at.at _ c.loop-at-test.true c.line_end-end.ensures in
-    let in-text = line-in c.args.text.now c.loop-at.at _ c.loop-at-test.true c.line_end-end.ensures in
+    let in-text = line_in c.args.text.now c.loop-at.at _ c.loop-at-test.true c.line_end-end.ensures in
     omega (arith, on, in-text)
 
 pub loop-at-preserved : goal.loop-at-preserved
@@ -36,10 +36,10 @@ loop-at-preserved c =
     let split = line_at c.args.text.now c.loop-at.at _ c.loop-at-test.true c.line_end-end.ensures in
     let more = sym c.if-ends.ensures in
     let good = c.loop-at.invariant.2 in (
-      line-in c.args.text.now c.loop-at.at _ c.loop-at-test.true c.line_end-end.ensures,
+      line_in c.args.text.now c.loop-at.at _ c.loop-at-test.true c.line_end-end.ensures,
       c.land_line.auto.memory ∙ c.loop-at.invariant.1,
-      good-next _ _ _ split good more,
-      rw c.land_line.ensures (good-landed _ _ _ split good _ more ∙ c.loop-at.invariant.3),
+      good_next _ _ _ split good more,
+      rw c.land_line.ensures (good_landed _ _ _ split good _ more ∙ c.loop-at.invariant.3),
     )
 
 pub returns : goal.returns

@@ -1,4 +1,4 @@
--- `intel_hex::output::digits`: the loop keeps the whole text (Turns, `digits-turn`); the measure is the bytes that are left.
+-- `intel_hex::output::digits`: the loop keeps the whole text (Turns, `digits_turn`); the measure is the bytes that are left.
 use Rattle.std.proofs.Common.{◌≡◌, ◌-◌, ◌≤◌, length, drop}
 use Rattle.text.specs.Text.{text_of, written_of}
 use Rattle.intel_hex.specs.Digits.{digits_of}

@@ -1,4 +1,4 @@
--- `intel_hex::output::records`: the loop keeps the whole text (Chunks, `chunk-turn`); the measure is the bytes that are left.
+-- `intel_hex::output::records`: the loop keeps the whole text (Chunks, `chunk_turn`); the measure is the bytes that are left.
 use Rattle.std.proofs.Common.{◌≡◌, ◌+◌, length}
 use Rattle.text.specs.Text.{text_of, written_of}
 use Rattle.intel_hex.specs.Write.{records_for, records_of, range_of}

@@ -1,4 +1,4 @@
--- `intel_hex::output::sum`: the loop keeps the whole sum (Turns, `sum-turn`); the measure is the bytes that are left.
+-- `intel_hex::output::sum`: the loop keeps the whole sum (Turns, `sum_turn`); the measure is the bytes that are left.
 use Rattle.std.proofs.Common.{◌≡◌, ◌+◌, ◌-◌, ◌%◌, ◌≤◌, ◌<◌, length, drop}
 use Rattle.intel_hex.specs.Digits.{byte_sum}
 use Rattle.intel_hex.proofs.output.sum.Given as goal

@@ -6,7 +6,7 @@ use Rattle.laws.specs.Choice.{pick}
 use Rattle.intel_hex.specs.declared.answer.Refusal.TheVariants.{PastEnd}
 use Rattle.intel_hex.specs.declared.record.Line.TheVariants.{Data, Faulty}
 use Rattle.intel_hex.specs.Record.{record_count, record_address, record_type, line_formed, line_is}
-use Rattle.intel_hex.proofs.Formed.{formed-fields}
+use Rattle.intel_hex.proofs.Formed.{formed_fields}
 use Rattle.intel_hex.proofs.record.what.Goals as goal
 
 pub returns-then-not-formed : goal.returns-then-not-formed
@@ -14,7 +14,7 @@ unfolding line_is
 returns-then-not-formed c = rw (← c.if-not-formed.ensures)
 
 pub kind-kind-requires : goal.kind-kind-requires
-kind-kind-requires c = formed-fields c.args.l.now (sym c.if-not-formed.ensures)
+kind-kind-requires c = formed_fields c.args.l.now (sym c.if-not-formed.ensures)
 
 pub returns-then-kind-eq1 : goal.returns-then-kind-eq1
 unfolding line_is
@@ -26,10 +26,10 @@ returns-then-kind-ne0 c =
     rw (← c.if-not-formed.ensures, ← c.kind-kind.ensures, ne_eqb _ 1 c.if-kind-eq1.false, ne_eqb _ 0 c.if-kind-ne0.true)
 
 pub address-requires : goal.address-requires
-address-requires c = formed-fields c.args.l.now (sym c.if-not-formed.ensures)
+address-requires c = formed_fields c.args.l.now (sym c.if-not-formed.ensures)
 
 pub count-requires : goal.count-requires
-count-requires c = formed-fields c.args.l.now (sym c.if-not-formed.ensures)
+count-requires c = formed_fields c.args.l.now (sym c.if-not-formed.ensures)
 
 -- past the other tests the line is by its place
 by_place : (l : List ℕ) (k : ℕ) → true ≡ line_formed l → k ≡ record_type l → (k ≡ 1 → ⊥) → k ≡ 0

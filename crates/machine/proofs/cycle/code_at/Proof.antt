@@ -1,6 +1,6 @@
 -- `machine::cycle::code_at` meets its contract.
 -- Assumes nothing.
-use Rattle.opcodes.proofs.Entries.{entry_at, code-in}
+use Rattle.opcodes.proofs.Entries.{entry_at, code_in_lem}
 use Rattle.std.proofs.Common.{rules}
 use Rattle.machine.proofs.cycle.code_at.Statement.{statement}
 use Rattle.machine.proofs.cycle.code_at.Tie as tie
@@ -13,4 +13,4 @@ code_at_spec =
     let op = c.args.op in
     let small = c.ranges.op.fits in
     simp (c.code.ensures, c.before.entry.ensures, c.requires, entry_at op small)
-    (code-in op small c.args.c)))
+    (code_in_lem op small c.args.c)))

@@ -1,6 +1,6 @@
 -- `machine::cycle::cycles` meets its contract.
 -- Assumes nothing.
-use Rattle.opcodes.proofs.Entries.{entry_at, count-in}
+use Rattle.opcodes.proofs.Entries.{entry_at, count_in_lem}
 use Rattle.machine.specs.Cycle.{cycles_of}
 use Rattle.std.proofs.Common.{rules}
 use Rattle.machine.proofs.cycle.cycles.Statement.{statement}
@@ -21,6 +21,6 @@ cycles_spec =
         c.requires,
         entry_at op small,
       )
-          (count-in op small _),
+          (count_in_lem op small _),
       c.count.ensures.1,
     )))

@@ -1,6 +1,6 @@
 -- `machine::cycle::is_defined` meets its contract.
 -- Assumes nothing.
-use Rattle.opcodes.proofs.Entries.{entry_at, defined-in}
+use Rattle.opcodes.proofs.Entries.{entry_at, defined_in_lem}
 use Rattle.std.proofs.Common.{rules}
 use Rattle.machine.proofs.cycle.is_defined.Statement.{statement}
 use Rattle.machine.proofs.cycle.is_defined.Tie as tie
@@ -13,4 +13,4 @@ is_defined_spec =
     let op = c.args.op in
     let small = c.ranges.op.fits in
     simp (c.defined.ensures, c.before.entry.ensures, c.requires, entry_at op small)
-    (defined-in op small)))
+    (defined_in_lem op small)))

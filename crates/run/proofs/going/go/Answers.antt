@@ -5,7 +5,7 @@ use native.Mathlib.Omega.{arith}
 use borrow.Author.Rules.{rules}
 use Rattle.run.specs.Run.{World}
 use Rattle.run.specs.Outcome.{ran_in}
-use Rattle.run.proofs.Laws.{run_none, run-stopped}
+use Rattle.run.proofs.Laws.{run_none, run_stopped}
 use Rattle.run.proofs.Turn.{turn, made_eventful, turn_clock}
 use Rattle.run.proofs.going.go.Goals as goal
 
@@ -27,7 +27,7 @@ pub returns-then-stopped : goal.returns-then-stopped
 returns-then-stopped c =
     let inv = c.loop-left.invariant in
     let stop = sym c.stopped.ensures ∙ c.if-stopped.true in
-    let e = sym (run-stopped _ _ _ _ stop) ∙ inv.run in
+    let e = sym (run_stopped _ _ _ _ stop) ∙ inv.run in
     record {
       ran = ap ran_in e;
       memory = ap (λ (w : World). w.memory) e;

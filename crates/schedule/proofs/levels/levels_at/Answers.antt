@@ -5,13 +5,13 @@ use mathlib.Core.Path.{sym, ap, ◌∙◌}
 use native.Mathlib.Omega.{arith}
 use borrow.Author.Count.{below_more}
 use Rattle.schedule.specs.Levels.{once_of}
-use Rattle.schedule.proofs.Cursor.{levels-before, levels-rest, levels-next}
+use Rattle.schedule.proofs.Cursor.{levels_before_lem, levels_rest, levels_next}
 use Rattle.schedule.proofs.levels.levels_at.Goals as goal
 
 pub loop-i-init : goal.loop-i-init
 loop-i-init c = (
   c.requires.within,
-  sym (levels-before _ _ _ _ c.requires.past),
+  sym (levels_before_lem _ _ _ _ c.requires.past),
   λ j p. omega (arith, c.requires.past j p),
 )
 
@@ -21,7 +21,7 @@ returns-then-t-state_number c =
       lines =
           c.loop-i.invariant.1
           ∙ sym
-          (levels-rest _ _ _ _ _ c.loop-i.invariant.0
+          (levels_rest _ _ _ _ _ c.loop-i.invariant.0
           (λ j p q.
           omega (
             arith,
@@ -41,7 +41,7 @@ loop-i-preserved c = (
       (once_of c.args.s.now c.loop-i.i
       c.args.t)
       c.loop-i.invariant.1
-      ∙ sym (levels-next _ _ _ _),
+      ∙ sym (levels_next _ _ _ _),
   below_more _ _ c.loop-i.invariant.2
       (omega (arith, c.state_number.ensures, c.if-t-state_number.false)),
 )
@@ -51,7 +51,7 @@ returns c =
     record {
       lines =
           c.loop-i.invariant.1
-          ∙ sym (levels-rest _ _ _ _ _ c.loop-i.invariant.0 (λ j p q. absurd (let no : ⊥ = omega arith in no)));
+          ∙ sym (levels_rest _ _ _ _ _ c.loop-i.invariant.0 (λ j p q. absurd (let no : ⊥ = omega arith in no)));
       within = c.loop-i.invariant.0;
       done = c.loop-i.invariant.2;
     }

@@ -4,7 +4,7 @@
 use mathlib.Core.Path.{sym, ◌∙◌}
 use native.Mathlib.Omega.{arith}
 use Rattle.schedule.specs.Events.{follows_of}
-use Rattle.schedule.proofs.All.{all_go, all-stop, all_end}
+use Rattle.schedule.proofs.All.{all_go, all_stop, all_end}
 use Rattle.schedule.proofs.order.all_follow.Goals as goal
 
 pub loop-left-preserved : goal.loop-left-preserved
@@ -17,7 +17,7 @@ loop-left-preserved c = (
 pub returns-else-follows : goal.returns-else-follows
 returns-else-follows c =
     sym
-    (all-stop (follows_of _) _ _ c.loop-left-test.true
+    (all_stop (follows_of _) _ _ c.loop-left-test.true
     (sym c.follows.ensures ∙ c.if-follows.false))
     ∙ c.loop-left.invariant.1
 

@@ -4,7 +4,7 @@
 use mathlib.Core.Path.{sym, ◌∙◌}
 use native.Mathlib.Omega.{arith}
 use Rattle.schedule.specs.Events.{listed_at}
-use Rattle.schedule.proofs.All.{all_go, all-stop, all_end}
+use Rattle.schedule.proofs.All.{all_go, all_stop, all_end}
 use Rattle.schedule.proofs.order.all_listed.Goals as goal
 
 pub loop-left-preserved : goal.loop-left-preserved
@@ -19,7 +19,7 @@ loop-left-preserved c = (
 pub returns-else-listed : goal.returns-else-listed
 returns-else-listed c =
     sym
-    (all-stop (listed_at c.args.s.now) _ _
+    (all_stop (listed_at c.args.s.now) _ _
     c.loop-left-test.true
     (sym c.listed.ensures ∙ c.if-listed.false))
     ∙ c.loop-left.invariant.1
