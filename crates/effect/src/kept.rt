@@ -33,6 +33,7 @@ pub fn kept_for(ack: Acknowledge, n: u8) -> Kept
 }
 
 // The byte v, read in cycle c, is kept.
+#[tactic(auto, unfolding(crate::specs::Kept::keep_of))]
 pub fn keep(c: u8, v: u8, k: Kept) -> Kept
     ensures { result ≡ keep_of c v k }
 {

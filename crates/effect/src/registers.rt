@@ -85,6 +85,7 @@ pub(crate) fn pair(p: u8, r: Registers) -> u16
 }
 
 // The registers with v in the pair p.
+#[tactic(auto, unfolding(crate::specs::Pairs::with_pair))]
 pub(crate) fn with_pair(p: u8, v: u16, r: Registers) -> Registers
     ensures { result ≡ with_pair p v r }
 {
@@ -111,6 +112,7 @@ pub(crate) fn with_pair(p: u8, v: u16, r: Registers) -> Registers
 }
 
 // POP: the registers with two bytes of the stack in the pair p, of BC DE HL PSW, and SP past them.
+#[tactic(auto, unfolding(crate::specs::Pairs::pop_pair))]
 pub(crate) fn pop_pair(p: u8, high: u8, low: u8, r: Registers) -> Registers
     ensures { result ≡ pop_pair p high low r }
 {

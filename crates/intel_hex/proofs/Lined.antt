@@ -99,6 +99,10 @@ module _ (t : List ℕ) (at end : ℕ) (h : at < length t) (e : end ≡ at + fir
   pub line_in : end ≤ length t
   line_in = omega (arith, e, first_within (drop at t), length-drop at t)
 
+  -- so what is left behind it is less
+  pub line_less : length t - end < length t - at
+  line_less = omega (arith, line_on, line_in)
+
   pub line_at : text_lines (drop at t) ≡ take (end - at) (drop at t) ∷ text_lines (drop end t)
   line_at =
       let size : end - at ≡ first_length (drop at t) = omega (arith, e) in

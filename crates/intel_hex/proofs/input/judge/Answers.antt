@@ -1,7 +1,7 @@
 -- `intel_hex::input::judge`: a turn of the loop judges a line, and it ends at the end record, at a fault or where no line is left
 -- (Lined, Judged).
 use Rattle.std.proofs.Common.{sym, ◌∙◌, arith}
-use Rattle.intel_hex.proofs.Lined.{line_on, line_in, line_at, lines_none}
+use Rattle.intel_hex.proofs.Lined.{line_on, line_in, line_less, line_at, lines_none}
 use Rattle.intel_hex.proofs.Judged.{judged_data, judged_end, judged_fault, judged_none}
 use Rattle.intel_hex.proofs.input.judge.Goals as goal
 
@@ -9,10 +9,7 @@ pub slice_bounds-what-end : goal.slice_bounds-what-end
 slice_bounds-what-end c = line_in c.args.text.now c.loop-at.at _ c.loop-at-test.true c.line_end-end.ensures
 
 pub loop-at-smaller : goal.loop-at-smaller
-loop-at-smaller c =
-    let on = line_on c.args.text.now c.loop-at.at _ c.loop-at-test.true c.line_end-end.ensures in
-    let in-text = line_in c.args.text.now c.loop-at.at _ c.loop-at-test.true c.line_end-end.ensures in
-    omega (arith, on, in-text)
+loop-at-smaller c = line_less c.args.text.now c.loop-at.at _ c.loop-at-test.true c.line_end-end.ensures
 
 pub loop-at-preserved : goal.loop-at-preserved
 loop-at-preserved c =

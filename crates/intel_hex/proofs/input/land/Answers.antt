@@ -1,7 +1,7 @@
 -- `intel_hex::input::land`: a turn of the loop puts a good line's data into memory, and it ends at the end record or where no line
 -- is left (Lined, Judged).
-use Rattle.std.proofs.Common.{sym, ◌∙◌, arith}
-use Rattle.intel_hex.proofs.Lined.{line_on, line_in, line_at, lines_none}
+use Rattle.std.proofs.Common.{sym, ◌∙◌}
+use Rattle.intel_hex.proofs.Lined.{line_in, line_less, line_at, lines_none}
 use Rattle.intel_hex.proofs.Judged.{good_formed, good_end, good_data, good_landed, good_next, landed_none}
 use Rattle.intel_hex.proofs.input.land.Goals as goal
 
@@ -26,10 +26,7 @@ land_line-requires c = (
 )
 
 pub loop-at-smaller : goal.loop-at-smaller
-loop-at-smaller c =
-    let on = line_on c.args.text.now c.loop-at.at _ c.loop-at-test.true c.line_end-end.ensures in
-    let in-text = line_in c.args.text.now c.loop-at.at _ c.loop-at-test.true c.line_end-end.ensures in
-    omega (arith, on, in-text)
+loop-at-smaller c = line_less c.args.text.now c.loop-at.at _ c.loop-at-test.true c.line_end-end.ensures
 
 pub loop-at-preserved : goal.loop-at-preserved
 loop-at-preserved c =
