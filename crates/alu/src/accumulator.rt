@@ -1,75 +1,31 @@
-// What touches A and CY alone: the rotates, complement, set carry and complement carry.
-ghost use Rattle.std.specs.Prelude.{◌≡◌};
-ghost use Rattle.alu.specs.Accumulator.{rlc_of, rrc_of, ral_of, rar_of, cma_of, stc_of, cmc_of};
+// What touches A and CY alone: the rotates, and a byte with another CY.
+ghost use Rattle.std.specs.Prelude.{◌≡◌, ◌+◌, ◌*◌, ◌/◌, ◌%◌, ◌<◌};
+ghost use Rattle.alu.specs.Accumulator.{rotated, bit7, bit0};
 
-use crate::flags::{Flagged, Flags, bit, with_cy};
+use crate::flags::{Flagged, Flags, with_cy};
 
-// RLC: left, bit 7 into bit 0 and CY.
-pub(crate) fn rlc(a: u8, f: Flags) -> Flagged
-    ensures { result ≡ rlc_of a f }
+// A byte, with the flags from before but for CY.
+pub(crate) fn with_carry(value: u8, cy: bool, f: Flags) -> Flagged
+    ensures { result ≡ rotated value cy f }
 {
     Flagged {
-        value: a % 128 * 2 + a / 128,
-        flags: with_cy(128 <= a, f),
+        value,
+        flags: with_cy(cy, f),
     }
 }
 
-// RRC: right, bit 0 into bit 7 and CY.
-pub(crate) fn rrc(a: u8, f: Flags) -> Flagged
-    ensures { result ≡ rrc_of a f }
+// A rotate to the left: `low` comes in as bit 0, bit 7 goes into CY.
+pub(crate) fn left(a: u8, low: u8, f: Flags) -> Flagged
+    requires { low < 2 }
+    ensures { result ≡ rotated (a % 128 * 2 + low) (bit7 a) f }
 {
-    Flagged {
-        value: a / 2 + a % 2 * 128,
-        flags: with_cy(a % 2 == 1, f),
-    }
+    with_carry(a % 128 * 2 + low, 128 <= a, f)
 }
 
-// RAL: left through CY.
-pub(crate) fn ral(a: u8, f: Flags) -> Flagged
-    ensures { result ≡ ral_of a f }
+// A rotate to the right: `high` comes in as bit 7, bit 0 goes into CY.
+pub(crate) fn right(a: u8, high: u8, f: Flags) -> Flagged
+    requires { high < 2 }
+    ensures { result ≡ rotated (a / 2 + high * 128) (bit0 a) f }
 {
-    Flagged {
-        value: a % 128 * 2 + bit(f.cy),
-        flags: with_cy(128 <= a, f),
-    }
-}
-
-// RAR: right through CY.
-pub(crate) fn rar(a: u8, f: Flags) -> Flagged
-    ensures { result ≡ rar_of a f }
-{
-    Flagged {
-        value: a / 2 + bit(f.cy) * 128,
-        flags: with_cy(a % 2 == 1, f),
-    }
-}
-
-// CMA: each bit turned over; no flag.
-pub(crate) fn cma(a: u8, f: Flags) -> Flagged
-    ensures { result ≡ cma_of a f }
-{
-    Flagged {
-        value: 255 - a,
-        flags: f,
-    }
-}
-
-// STC: CY set; A stays.
-pub(crate) fn stc(a: u8, f: Flags) -> Flagged
-    ensures { result ≡ stc_of a f }
-{
-    Flagged {
-        value: a,
-        flags: with_cy(true, f),
-    }
-}
-
-// CMC: CY turned over; A stays.
-pub(crate) fn cmc(a: u8, f: Flags) -> Flagged
-    ensures { result ≡ cmc_of a f }
-{
-    Flagged {
-        value: a,
-        flags: with_cy(!f.cy, f),
-    }
+    with_carry(a / 2 + high * 128, a % 2 == 1, f)
 }

@@ -1,8 +1,9 @@
-// The five flags, the byte that they are kept in, and a byte with the flags of its value.
+// The five flags, the byte that they are kept in, and a byte with the flags of its value. (`bit`, `flag_byte` and `flags_of` are
+// functions and no `From`: the pages name them. `bit` is the flag byte's; in sums a carry is a number by `u8::from`.)
 ghost use Rattle.std.specs.Prelude.{◌≡◌, ◌<◌};
 ghost use Rattle.alu.specs.Flags.{bit_of, parity_of, flag_byte_of, flags_of, result_of, with_cy};
 
-#[derive(Clone, Copy)]
+#[derive(Clone, Copy, Debug, PartialEq, Eq)]
 pub struct Flags {
     pub s: bool,
     pub z: bool,
@@ -12,7 +13,7 @@ pub struct Flags {
 }
 
 // A byte and the flags after it was made.
-#[derive(Clone, Copy)]
+#[derive(Clone, Copy, Debug, PartialEq, Eq)]
 pub struct Flagged {
     pub value: u8,
     pub flags: Flags,
@@ -22,47 +23,52 @@ pub struct Flagged {
 pub fn bit(c: bool) -> u8
     ensures { (result ≡ bit_of c) × (result < 2) }
 {
-    c as u8
+    u8::from(c)
 }
 
-// Whether the number of ones in the byte is even: bit n of row h of the table, of four rows of 64 bits, is the parity of
-// 64 h + n. The rows are the arms of a `match`, which is read in place; a constant array would be copied at each use.
+// Bit n of row h is the parity of 64 h + n.
+static ROWS: [u64; 4] = [
+    0x9669_6996_6996_9669,
+    0x6996_9669_9669_6996,
+    0x6996_9669_9669_6996,
+    0x9669_6996_6996_9669,
+];
+
+// Whether the number of ones in the byte is even. (Read from a table, which change request W4 takes out.)
+#[tactic(auto, using(crate::proofs::Parity::parity_read))]
 pub(crate) fn parity(v: u8) -> bool
     ensures { result ≡ parity_of v }
 {
-    let n = v % 64;
-    match v / 64 {
-        0 => (0x9669_6996_6996_9669u64 >> n) % 2 == 1,
-        1 => (0x6996_9669_9669_6996u64 >> n) % 2 == 1,
-        2 => (0x6996_9669_9669_6996u64 >> n) % 2 == 1,
-        _ => (0x9669_6996_6996_9669u64 >> n) % 2 == 1,
-    }
+    (ROWS[usize::from(v / 64)] >> (v % 64)) % 2 == 1
 }
 
 // A byte with the S, Z and P of its value, and the given AC and CY.
-pub(crate) fn result(v: u8, ac: bool, cy: bool) -> Flagged
-    ensures { result ≡ result_of v ac cy }
+#[tactic(auto, unfolding(crate::specs::Flags::result_of))]
+pub(crate) fn result(value: u8, ac: bool, cy: bool) -> Flagged
+    ensures { result ≡ result_of value ac cy }
 {
     Flagged {
-        value: v,
+        value,
         flags: Flags {
-            s: 128 <= v,
-            z: v == 0,
-            ac: ac,
-            p: parity(v),
-            cy: cy,
+            s: 128 <= value,
+            z: value == 0,
+            ac,
+            p: parity(value),
+            cy,
         },
     }
 }
 
 // The flags with another CY.
+#[tactic(auto, unfolding(crate::specs::Flags::with_cy))]
 pub fn with_cy(cy: bool, f: Flags) -> Flags
     ensures { result ≡ with_cy cy f }
 {
-    Flags { cy: cy, ..f }
+    Flags { cy, ..f }
 }
 
 // The flag byte: S, Z, 0, AC, 0, P, 1, CY.
+#[tactic(auto, unfolding(crate::specs::Flags::flag_byte_of))]
 pub fn flag_byte(f: Flags) -> u8
     ensures { result ≡ flag_byte_of f }
 {
@@ -70,6 +76,7 @@ pub fn flag_byte(f: Flags) -> u8
 }
 
 // The flags in a byte, whatever stands at the fixed bits.
+#[tactic(auto, unfolding(crate::specs::Flags::flags_of))]
 pub fn flags_of(v: u8) -> Flags
     ensures { result ≡ flags_of v }
 {

@@ -1,11 +1,13 @@
-// Intel's two groups of eight operations, chosen by a digit of the opcode.
+// Intel's two groups of eight operations, chosen by a digit of the opcode: y stays that number, as the manual and C have it.
 ghost use Rattle.std.specs.Prelude.{◌≡◌};
 ghost use Rattle.alu.specs.Groups.{arithmetic_of, accumulator_of};
 
+use crate::accumulator::{left, right, with_carry};
 use crate::flags::{Flagged, Flags};
-use crate::{accumulator as single, logic, sums};
+use crate::{logic, sums};
 
 // ADD, ADC, SUB, SBB, ANA, XRA, ORA, CMP for y from 0 to 7; cy is the carry from before.
+#[tactic(auto, unfolding(crate::specs::Groups::arithmetic_of))]
 pub fn arithmetic(y: u8, a: u8, b: u8, cy: bool) -> Flagged
     ensures { result ≡ arithmetic_of y a b cy }
 {
@@ -22,17 +24,21 @@ pub fn arithmetic(y: u8, a: u8, b: u8, cy: bool) -> Flagged
 }
 
 // RLC, RRC, RAL, RAR, DAA, CMA, STC, CMC for y from 0 to 7.
+#[tactic(auto, unfolding(crate::specs::Groups::accumulator_of, crate::specs::Accumulator::rlc_of, crate::specs::Accumulator::rrc_of, crate::specs::Accumulator::ral_of, crate::specs::Accumulator::rar_of, crate::specs::Accumulator::cma_of, crate::specs::Accumulator::stc_of, crate::specs::Accumulator::cmc_of))]
 pub fn accumulator(y: u8, a: u8, f: Flags) -> Flagged
     ensures { result ≡ accumulator_of y a f }
 {
     match y {
-        0 => single::rlc(a, f),
-        1 => single::rrc(a, f),
-        2 => single::ral(a, f),
-        3 => single::rar(a, f),
+        0 => left(a, a / 128, f),
+        1 => right(a, a % 2, f),
+        2 => left(a, u8::from(f.cy), f),
+        3 => right(a, u8::from(f.cy), f),
         4 => sums::daa(a, f.ac, f.cy),
-        5 => single::cma(a, f),
-        6 => single::stc(a, f),
-        _ => single::cmc(a, f),
+        5 => Flagged {
+            value: !a,
+            flags: f,
+        },
+        6 => with_carry(a, true, f),
+        _ => with_carry(a, !f.cy, f),
     }
 }

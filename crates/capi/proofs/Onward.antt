@@ -15,8 +15,7 @@ use Rattle.machine.specs.Well.{well_of}
 use Rattle.machine.specs.Step.{step_of}
 use Rattle.run.specs.declared.answer.Refusal.{Refusal}
 use Rattle.run.specs.declared.answer.Refusal.TheVariants.{MemorySize, PortSize, TooManyStates, TraceShort, IllFormed, ClockRange}
-use Rattle.run.specs.declared.answer.Verdict.{Verdict}
-use Rattle.run.specs.declared.answer.Verdict.TheVariants.{Good, Refused}
+use Rattle.std.specs.Prelude.{Result, Ok, Err}
 use Rattle.run.specs.declared.answer.Ran.{Ran}
 use Rattle.run.specs.declared.answer.Answer.TheVariants.{Done, Stopped}
 use Rattle.run.specs.Check.{and_then, unless, schedule_verdict, states_verdict, check_of}
@@ -53,47 +52,41 @@ step_left z v r z' c e =
     ∙ handed_record z (step_of v (handed_of z)) (well_size z (step_well (well_of (handed_of z)) _ none))
 
 -- of tests one after the other that are good, each is: the sixth is 8's
-refused : {A : Type 0} {r : Refusal} → Refused r ≡ Good → A
-refused e = absurd (let z : ◌≡◌ {A = ℕ} 0 1 = cc in let no : ⊥ = omega arith in no)
+then_good : (a b : Result (Unit {0}) Refusal) → and_then a b ≡ Ok tt → b ≡ Ok tt
+then_good (Ok good) b e = e
+then_good (Err r) b e = absurd cc
 
-sixth_good : (a b c d e f g : Verdict) → and_then a (and_then b (and_then c (and_then d (and_then e (and_then f g))))) ≡ Good
-    → f ≡ Good
-sixth_good Good Good Good Good Good Good g q = refl
-sixth_good Good Good Good Good Good (Refused r) g q = refused q
-sixth_good Good Good Good Good (Refused r) f g q = refused q
-sixth_good Good Good Good (Refused r) e f g q = refused q
-sixth_good Good Good (Refused r) d e f g q = refused q
-sixth_good Good (Refused r) c d e f g q = refused q
-sixth_good (Refused r) b c d e f g q = refused q
+first_good : (a b : Result (Unit {0}) Refusal) → and_then a b ≡ Ok tt → a ≡ Ok tt
+first_good (Ok good) b e = refl
+first_good (Err r) b e = absurd cc
 
-unless_good : (b : Bool) (r : Refusal) → unless b r ≡ Good → b ≡ true
+unless_good : (b : Bool) (r : Refusal) → unless b r ≡ Ok tt → b ≡ true
 unless_good true r e = refl
-unless_good false r e = refused e
+unless_good false r e = absurd cc
 
 -- so a run that is not refused has a well-formed machine
-good_well : (m : Machine) (x i o : ℕ) (s : List ℕ) (l n : ℕ) → check_of m x i o s l n ≡ Good → well_of m ≡ true
+good_well : (m : Machine) (x i o : ℕ) (s : List ℕ) (l n : ℕ) → check_of m x i o s l n ≡ Ok tt → well_of m ≡ true
 unfolding check_of states_verdict
 good_well m x i o s l n e =
     unless_good (well_of m) IllFormed
-    (sixth_good (unless (eqb x 65536) MemorySize) (unless (eqb i 256 && eqb o 256) PortSize) (schedule_verdict s)
-    (unless (leb n 8192) TooManyStates)
-    (unless (leb (8 * n) l) TraceShort)
-    (unless (well_of m) IllFormed)
-    (unless (leb (m.clock + n) 4294967295) ClockRange)
-    e)
+    (first_good _ (unless (leb (m.clock + n) 4294967295) ClockRange)
+    (then_good (unless (leb (8 * n) l) TraceShort) _
+    (then_good (unless (leb n 8192) TooManyStates) _
+    (then_good (schedule_verdict s) _
+    (then_good (unless (eqb i 256 && eqb o 256) PortSize) _ (then_good (unless (eqb x 65536) MemorySize) _ e))))))
 
 -- done or stopped, the machine goes into the record
 ended_record : (b : Bool) (ran : Ran) (z : List ℕ) → record_by (pick b (Stopped ran) (Done ran)) z ≡ record_with z ran.machine
 ended_record true ran z = refl
 ended_record false ran z = refl
 
-left_by_lem : (v : Verdict) (after before : World) (z : List ℕ) → (v ≡ Good → length z ≡ 64) → handed_of z ≡ before.machine
+left_by_lem : (v : Result (Unit {0}) Refusal) (after before : World) (z : List ℕ) → (v ≡ Ok tt → length z ≡ 64) → handed_of z ≡ before.machine
     → handed_of (record_by (answer_by v after before) z) ≡ (left_by v after before).machine
 unfolding answered_of
-left_by_lem Good after before z f e =
+left_by_lem (Ok good) after before z f e =
     ap handed_of (ended_record (stopped_of after.machine.next) (ran_in after) z)
     ∙ handed_record z after.machine (f refl)
-left_by_lem (Refused reason) after before z f e = e
+left_by_lem (Err reason) after before z f e = e
 
 pub run_left : (z : List ℕ) (n : ℕ) (x i o s l : List ℕ) (r : ℕ) (z' x' o' l' : List ℕ) → RunCall z n x i o s l r z' x' o' l'
     → handed_of z' ≡ (left_of (start_of (handed_of z) x o l) i s n).machine

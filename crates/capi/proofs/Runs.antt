@@ -1,6 +1,6 @@
--- A run of a machine in a record, and that no run does more states than it is asked. Assumes nothing.
+-- No run does more states than it is asked. Assumes nothing.
 use Prim.Native.Nat.{ℕ, zero, suc, ◌+◌, ◌≤◌}
-use mathlib.Core.Path.{◌≡◌, ap, ◌∙◌}
+use mathlib.Core.Path.{◌≡◌}
 use mathlib.Core.Bool.{Bool, true, false}
 use mathlib.Core.List.{List}
 use native.Mathlib.Omega.{arith}
@@ -8,8 +8,8 @@ use Rattle.laws.specs.Choice.{pick}
 use Rattle.laws.proofs.Tests.{pick_both}
 use Rattle.machine.specs.declared.record.Machine.{Machine}
 use Rattle.machine.specs.Record.{stopped_of}
-use Rattle.run.specs.declared.answer.Verdict.{Verdict}
-use Rattle.run.specs.declared.answer.Verdict.TheVariants.{Good, Refused}
+use Rattle.std.specs.Prelude.{Result, Ok, Err}
+use Rattle.run.specs.declared.answer.Refusal.{Refusal}
 use Rattle.run.specs.declared.answer.Ran.{Ran}
 use Rattle.run.specs.declared.answer.Answer.{Answer}
 use Rattle.run.specs.declared.answer.Answer.TheVariants.{Done, Stopped}
@@ -17,9 +17,6 @@ use Rattle.run.specs.Answer.{ran_of}
 use Rattle.run.specs.Run.{World, state_of, run_of}
 use Rattle.run.specs.Outcome.{start_of, verdict_of, ran_in, answered_of, answer_by, answer_of, Outcome}
 use Rattle.run.proofs.Laws.{next_of}
-use Rattle.capi.specs.Handed.{handed_of}
-use Rattle.capi.specs.Numbers.{run_number}
-use Rattle.capi.specs.Calls.{record_by, RunCall}
 
 -- n states from the world w count n at the most
 few_next : (s inputs : List ℕ) (n k : ℕ) (w : World) → k ≤ (next_of s inputs w).states + n → k ≤ w.states + suc n
@@ -38,28 +35,17 @@ ended_ran : (b : Bool) (ran : Ran) → ran_of (pick b (Stopped ran) (Done ran)) 
 ended_ran true ran = cc
 ended_ran false ran = cc
 
-few_by : (v : Verdict) (after before : World) (k : ℕ) → after.states ≤ k → before.states ≤ k
+few_by : (v : Result (Unit {0}) Refusal) (after before : World) (k : ℕ) → after.states ≤ k → before.states ≤ k
     → (ran_of (answer_by v after before)).states ≤ k
 unfolding answered_of
-few_by Good after before k h l = rw (ended_ran (stopped_of after.machine.next) (ran_in after)) h
-few_by (Refused reason) after before k h l = l
+few_by (Ok good) after before k h l = rw (ended_ran (stopped_of after.machine.next) (ran_in after)) h
+few_by (Err reason) after before k h l = l
 
 -- and so does the answer of a run of n states
-pub answer_few : (m : Machine) (x i o s l : List ℕ) (n : ℕ) (a : Answer) (x' o' l' : List ℕ) → Outcome m x i o s l n a x' o' l'
-    → (ran_of a).states ≤ n
+pub answer_few : (m : Machine) (x i o s l : List ℕ) (n k : ℕ) (a : Answer) (x' o' l' : List ℕ) → Outcome m x i o s l n a x' o' l'
+    → n ≤ k → (ran_of a).states ≤ k
 unfolding answer_of
-answer_few m x i o s l n a x' o' l' out =
+answer_few m x i o s l n k a x' o' l' out h =
     let w = start_of m x o l in
     rw out.answer
-    (few_by (verdict_of w i s n) (run_of s i n w) w n (omega (arith, run_few s i n w)) (omega arith))
-
-pub run_call : (z x i o s l : List ℕ) (n : ℕ) (m : Machine) (a : Answer) (r : ℕ) (z' x' o' l' : List ℕ) → m ≡ handed_of z
-    → Outcome m x i o s l n a x' o' l' → z' ≡ record_by a z → r ≡ run_number a → RunCall z n x i o s l r z' x' o' l'
-run_call z x i o s l n m a r z' x' o' l' h out p q =
-    record {
-      answer = q ∙ ap run_number out.answer ∙ rw h;
-      machine = p ∙ ap (λ (b : Answer). record_by b z) out.answer ∙ rw h;
-      memory = out.memory ∙ rw h;
-      outputs = out.outputs ∙ rw h;
-      trace = out.trace ∙ rw h;
-    }
+    (few_by (verdict_of w i s n) (run_of s i n w) w k (omega (arith, run_few s i n w)) (omega arith))

@@ -10,14 +10,11 @@ use Rattle.machine.specs.declared.record.Machine.{Machine}
 use Rattle.saved.specs.declared.answer.Refusal.{Refusal}
 use Rattle.saved.specs.declared.answer.Refusal.TheVariants.{MemorySize, PortSize, IllFormed, InsideInstruction}
 use Rattle.saved.specs.declared.answer.Refusal.TheVariants.{SavedSize, FieldRange, OutputSize}
-use Rattle.saved.specs.declared.answer.Verdict.{Verdict}
-use Rattle.saved.specs.declared.answer.Verdict.TheVariants.{Good, Refused}
-use Rattle.saved.specs.declared.answer.Saving.TheVariants.{Saved}
-use Rattle.saved.specs.declared.answer.Loading.TheVariants.{Loaded}
+use Rattle.std.specs.Prelude.{Result, Ok, Err}
 use Rattle.saved.specs.Fields.{machine_in}
 use Rattle.saved.specs.Answer.{refusal_number, saving_number, loading_number}
 use Rattle.saved.specs.Check.{save_verdict, load_verdict}
-use Rattle.saved.specs.Outcome.{saving_by, loading_by, Saves, Loads}
+use Rattle.saved.specs.Outcome.{loading_by, Saves, Loads}
 use Rattle.saved.proofs.Trip.{saved_loads}
 use Rattle.capi.specs.Flat.{flat_of}
 use Rattle.capi.specs.Handed.{handed_of}
@@ -35,15 +32,15 @@ no_zero SavedSize e = omega arith
 no_zero FieldRange e = omega arith
 no_zero OutputSize e = omega arith
 
-zero_good : (v : Verdict) → saving_number (saving_by v) ≡ 0 → v ≡ Good
-zero_good Good e = refl
-zero_good (Refused reason) e = absurd (no_zero reason e)
+zero_good : (v : Result (Unit {0}) Refusal) → saving_number v ≡ 0 → v ≡ Ok tt
+zero_good (Ok good) e = refl
+zero_good (Err reason) e = absurd (no_zero reason e)
 
 -- a save through C that is done is one of `save`
-saved_by : (z x o f f' : List ℕ) → SaveCall z x o f 0 f' → Saves (handed_of z) x o f Saved f'
+saved_by : (z x o f f' : List ℕ) → SaveCall z x o f 0 f' → Saves (handed_of z) x o f (Ok tt) f'
 saved_by z x o f f' c =
     let good = zero_good (save_verdict (handed_of z) (length x) (length o) (length f)) (sym c.answer) in
-    record { answer = rw good; out = c.out }
+    record { answer = sym good; out = c.out }
 
 -- a load through C into a record is one of `load`, whatever machine that is handed
 loaded_by : (k : Machine) (z s x o : List ℕ) (r : ℕ) (z' x' o' : List ℕ) → length z ≡ 64 → LoadCall z s x o r z' x' o'
@@ -55,7 +52,7 @@ loaded_by k z s x o r z' x' o' e c =
 
 -- what a load through C returns and leaves in the record, where `load` gave the machine m
 loaded_call : (m k : Machine) (z s x o : List ℕ) (r : ℕ) (z' x' o' : List ℕ) → length z ≡ 64 → LoadCall z s x o r z' x' o'
-    → loading_by (load_verdict s (length x) (length o)) (machine_in s) k ≡ Loaded m → (r ≡ 0) × (z' ≡ flat_of m)
+    → loading_by (load_verdict s (length x) (length o)) (machine_in s) k ≡ Ok m → (r ≡ 0) × (z' ≡ flat_of m)
 unfolding load_call_verdict
 loaded_call m k z s x o r z' x' o' e c l =
     let yes = eq-eqb (length z) 64 e in

@@ -1,6 +1,6 @@
 -- What each C function answers and leaves, for all inputs. Source: document 01, "Numbers returned"; docs/RECORD.md; request W1.
 -- Cited by the public functions. z is the record that is handed in, r the answer; a prime marks a list afterwards.
-use Rattle.std.specs.Prelude.{ℕ, ◌≡◌, List, eqb, length}
+use Rattle.std.specs.Prelude.{ℕ, ◌≡◌, List, Result, eqb, length}
 use Rattle.laws.specs.Choice.{pick}
 use Rattle.machine.specs.Record.{cold_of}
 use Rattle.machine.specs.Look.{look_of}
@@ -9,13 +9,13 @@ use Rattle.machine.specs.Step.{step_of}
 use Rattle.run.specs.declared.answer.Answer.{Answer}
 use Rattle.run.specs.declared.answer.Answer.TheVariants.{Done, Stopped, Refused}
 use Rattle.run.specs.Outcome.{start_of, left_of, answer_of}
+use Rattle.saved.specs.declared.answer.Refusal.{Refusal}
 use Rattle.saved.specs.declared.answer.Refusal.TheVariants.{IllFormed}
-use Rattle.saved.specs.declared.answer.Verdict.{Verdict}
 use Rattle.saved.specs.Header.{saved_of}
 use Rattle.saved.specs.Fields.{machine_in, ports_in, memory_in}
 use Rattle.saved.specs.Answer.{saving_number}
 use Rattle.saved.specs.Check.{pass, save_verdict, load_verdict}
-use Rattle.saved.specs.Outcome.{filled_by, saving_by}
+use Rattle.saved.specs.Outcome.{filled_by}
 use Rattle.intel_hex.specs.Read.{reading_of}
 use Rattle.intel_hex.specs.Write.{hex_of, range_of, writing_of}
 use Rattle.intel_hex.specs.Answer.{reading_number, reading_line, writing_number, writing_length}
@@ -54,16 +54,16 @@ pub record RunCall (z : List ℕ) (n : ℕ) (x i o s l : List ℕ) (r : ℕ) (z'
 
 -- saving with memory x and output ports o into the output f
 pub record SaveCall (z x o f : List ℕ) (r : ℕ) (f' : List ℕ) : Type 0 where
-  pub answer : r ≡ saving_number (saving_by (save_verdict (handed_of z) (length x) (length o) (length f)))
+  pub answer : r ≡ saving_number (save_verdict (handed_of z) (length x) (length o) (length f))
   pub out : f' ≡ filled_by (save_verdict (handed_of z) (length x) (length o) (length f)) (saved_of (handed_of z) o x) f
 
 -- loading's tests: 8 where z is no record, "12, 13, then 1 and 2"; what the record holds plays no part
-unfoldable pub load_call_verdict : List ℕ → List ℕ → List ℕ → List ℕ → Verdict
+unfoldable pub load_call_verdict : List ℕ → List ℕ → List ℕ → List ℕ → Result (Unit {0}) Refusal
 load_call_verdict z s x o = pass (eqb (length z) 64) IllFormed (load_verdict s (length x) (length o))
 
 -- loading the saved form s into memory x and output ports o
 pub record LoadCall (z s x o : List ℕ) (r : ℕ) (z' x' o' : List ℕ) : Type 0 where
-  pub answer : r ≡ saving_number (saving_by (load_call_verdict z s x o))
+  pub answer : r ≡ saving_number (load_call_verdict z s x o)
   pub machine : z' ≡ filled_by (load_call_verdict z s x o) (flat_of (machine_in s)) z
   pub memory : x' ≡ filled_by (load_call_verdict z s x o) (memory_in s) x
   pub outputs : o' ≡ filled_by (load_call_verdict z s x o) (ports_in s) o

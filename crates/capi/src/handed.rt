@@ -1,7 +1,7 @@
-// The machine of a record: 64 bytes, each inside its range.
-ghost use Rattle.std.specs.Prelude.{◌≡◌, ◌+◌, ◌≤◌, length};
-ghost use Rattle.schedule.specs.Events.{all};
-ghost use Rattle.capi.specs.Handed.{position_in, acknowledge_in, kept_in, recorded_of, zero_at, place_fits, formed_of, broken_of, handed_of};
+// The machine of a record: 64 bytes, each inside its range. (Numbers, as docs/RECORD.md has them: C interface.)
+ghost use Rattle.std.specs.Prelude.{◌≡◌, ◌==◌};
+ghost use Rattle.std.specs.List.{list_all};
+ghost use Rattle.capi.specs.Handed.{position_in, acknowledge_in, kept_in, recorded_of, place_fits, formed_of, broken_of, handed_of};
 
 use effect::kept::Kept;
 use effect::registers::Registers;
@@ -9,18 +9,18 @@ use machine::record::{Machine, Position};
 use opcodes::cycle::Acknowledge;
 use saved::fields::{clock_in, lines_in, registers_in};
 
-// What comes next, by its byte, with the cycle c and the state s.
+// What comes next, by its byte, with this cycle and this state.
 #[tactic(auto, unfolding(crate::specs::Handed::position_in))]
-fn position(what: u8, c: u8, s: u8) -> Position
-    ensures { result ≡ position_in what c s }
+fn position(what: u8, cycle: u8, state: u8) -> Position
+    ensures { result ≡ position_in what cycle state }
 {
     match what {
         0 => Position::Fetch,
         1 => Position::Halt,
         2 => Position::Stop,
-        3 => Position::Later { cycle: c, state: s },
-        4 => Position::Wait { cycle: c },
-        _ => Position::Hold { cycle: c },
+        3 => Position::Later { cycle, state },
+        4 => Position::Wait { cycle },
+        _ => Position::Hold { cycle },
     }
 }
 
@@ -37,8 +37,8 @@ fn acknowledge(n: u8) -> Acknowledge
 }
 
 // What is kept inside an instruction.
-fn kept(z: &[u8]) -> Kept
-    requires { 64 ≤ length z.now }
+#[tactic(auto, unfolding(crate::specs::Handed::kept_in))]
+fn kept(z: &[u8; 64]) -> Kept
     ensures { result ≡ kept_in z.now }
 {
     Kept {
@@ -53,8 +53,8 @@ fn kept(z: &[u8]) -> Kept
 }
 
 // The machine that the bytes say.
-fn recorded(z: &[u8]) -> Machine
-    requires { 64 ≤ length z.now }
+#[tactic(auto, unfolding(crate::specs::Handed::recorded_of))]
+fn recorded(z: &[u8; 64]) -> Machine
     ensures { result ≡ recorded_of z.now }
 {
     Machine {
@@ -66,60 +66,50 @@ fn recorded(z: &[u8]) -> Machine
     }
 }
 
-// Whether the n bytes from i on are zeros.
-fn zeros(z: &[u8], i: usize, n: usize) -> bool
-    requires { i + n ≤ length z.now }
-    ensures { result ≡ all (zero_at z.now) n i }
+// Whether the bytes are zeros.
+fn zeros(s: &[u8]) -> bool
+    ensures { result ≡ list_all (λ x. x == 0) s.now }
 {
-    let mut left = n;
-    let mut at = i;
-    while 0 < left {
-        if z[at] == 0 {
-            left -= 1;
-            at += 1;
-        } else {
-            return false;
-        }
-    }
-    true
+    s.iter().all(|x| *x == 0)
 }
 
 // A cycle c and a state s are named only where what comes next has them.
+#[tactic(auto, unfolding(crate::specs::Handed::place_fits))]
 fn place_fits(what: u8, c: u8, s: u8) -> bool
     ensures { result ≡ place_fits what c s }
 {
-    ((3 <= what) | (c == 0)) & ((what == 3) | (s == 0))
+    (3 <= what || c == 0) && (what == 3 || s == 0)
 }
 
-// Whether each byte of the record is inside its range.
-fn formed(z: &[u8]) -> bool
-    requires { 64 ≤ length z.now }
+// Whether each byte of the record is inside its range. (`&`, as the search passes its limits at the branches of `&&`.)
+#[tactic(auto, using(crate::proofs::Zeros::formed_is))]
+fn formed(z: &[u8; 64]) -> bool
     ensures { result ≡ formed_of z.now }
 {
     (z[12] <= 1)
         & (z[13] <= 5)
         & (z[27] <= 2)
         & place_fits(z[13], z[24], z[25])
-        & zeros(z, 21, 3)
-        & zeros(z, 33, 31)
+        & zeros(&z[21..24])
+        & zeros(&z[33..])
 }
 
 // A machine that is ill formed: its flag byte has a wrong fixed bit.
+#[tactic(auto, unfolding(crate::specs::Handed::broken_of, machine::specs::Record::cold_of))]
 fn broken() -> Machine
     ensures { result ≡ broken_of }
 {
     let m = Machine::cold();
-    let regs = m.regs;
-    m.with_regs(Registers { f: 0, ..regs })
+    m.with_regs(Registers { f: 0, ..m.regs })
 }
 
 // The machine of a record, and one that is ill formed where the record is malformed.
+#[tactic(auto, unfolding(crate::specs::Handed::handed_of))]
 pub(crate) fn handed(z: &[u8]) -> Machine
     ensures { result ≡ handed_of z.now }
 {
-    if z.len() == 64 {
-        if formed(z) { recorded(z) } else { broken() }
-    } else {
-        broken()
+    match z.as_array() {
+        Some(record) if formed(record) => recorded(record),
+        _ => broken(),
     }
 }

@@ -13,7 +13,7 @@ use crate::number::{DONE, ILL_FORMED, beside, request_number, run_number, step_n
 use intel_hex::answer::{reading_line, reading_number, writing_length, writing_number};
 use machine::record::Machine;
 use run::Asked;
-use saved::answer::{Loading, loading_number, saving_number};
+use saved::answer::saving_number;
 
 mod flat;
 mod handed;
@@ -24,9 +24,8 @@ mod number;
 pub extern "C" fn fez_cold(z: &mut [u8]) -> u8
     ensures { ColdCall z.old result z.new }
 {
-    let size = z.len();
     record_with(z, Machine::cold());
-    if size == 64 { DONE } else { ILL_FORMED }
+    if z.len() == 64 { DONE } else { ILL_FORMED }
 }
 
 // Whether the record is well formed.
@@ -38,14 +37,13 @@ pub extern "C" fn fez_well(z: &[u8]) -> bool
 }
 
 // What the state that comes next asks of the bus.
+#[tactic(auto, unfolding(crate::specs::Calls::request_call))]
 #[unsafe(no_mangle)]
 pub extern "C" fn fez_request(z: &[u8]) -> u32
     ensures { result ≡ request_call z.now }
 {
-    let t = opcodes::table::table();
     let m = handed(z);
-    let y = m.look(&t);
-    request_number(m.request(y))
+    request_number(m.request(m.look()))
 }
 
 // One state with the byte v on the bus: 0, or 8, 9 or 10, tested in that order, and nothing changed.
@@ -54,12 +52,11 @@ pub extern "C" fn fez_step(z: &mut [u8], v: u8) -> u8
     ensures { StepCall z.old v result z.new }
 {
     let m = handed(z);
-    let r = step_number(m);
-    if r == DONE {
+    let number = step_number(m);
+    if number == DONE {
         record_with(z, m.step(v));
-        return r;
     }
-    r
+    number
 }
 
 // n states over 65,536 bytes of memory, 256 input and 256 output ports, the schedule s and a trace of eight bytes a state: the
@@ -76,9 +73,8 @@ pub extern "C" fn fez_run(
 ) -> u64
     ensures { RunCall z.old n memory.old inputs.now outputs.old s.now trace.old result z.new memory.new outputs.new trace.new }
 {
-    let m = handed(z);
     let asked = Asked {
-        machine: m,
+        machine: handed(z),
         states: n as usize,
     };
     let answer = run::run(asked, memory, inputs, outputs, s, trace);
@@ -97,6 +93,7 @@ pub extern "C" fn fez_save(z: &[u8], memory: &[u8], outputs: &[u8], out: &mut [u
 
 // The machine, the output ports and the memory of the saved form s: 0, or a refusal that changes nothing. What the record held
 // is not judged, so `load` is handed any machine.
+#[tactic(auto, unfolding(crate::specs::Calls::load_call_verdict, crate::specs::Flat::record_with))]
 #[unsafe(no_mangle)]
 pub extern "C" fn fez_load(z: &mut [u8], s: &[u8], memory: &mut [u8], outputs: &mut [u8]) -> u8
     ensures { LoadCall z.old s.now memory.old outputs.old result z.new memory.new outputs.new }
@@ -104,16 +101,12 @@ pub extern "C" fn fez_load(z: &mut [u8], s: &[u8], memory: &mut [u8], outputs: &
     if z.len() != 64 {
         return ILL_FORMED;
     }
-    let loading = saved::load(Machine::cold(), s, memory, outputs);
-    match loading {
-        Loading::Loaded { machine: m } => {
+    match saved::load(Machine::cold(), s, memory, outputs) {
+        Ok(m) => {
             record_with(z, m);
             DONE
         }
-        Loading::Refused {
-            reason: _,
-            machine: _,
-        } => loading_number(loading),
+        Err(refused) => u8::from(refused.reason),
     }
 }
 

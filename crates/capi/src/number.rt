@@ -8,7 +8,8 @@ use machine::request::Request;
 use run::answer::{Answer, number};
 use run::ran;
 
-// Document 01's numbers that are given here and not by `run` or `saved`.
+// Document 01's numbers that these functions give themselves. (C interface: a C function returns the number itself, so there is
+// no enum between.)
 pub(crate) const DONE: u8 = 0;
 
 pub(crate) const ILL_FORMED: u8 = 8;
@@ -24,45 +25,46 @@ pub(crate) fn request_number(q: Request) -> u32
 {
     match q {
         Request::Nothing => 0,
-        Request::Read { address: a } => 0x1000000 + (a as u32),
-        Request::Write {
-            address: a,
-            byte: b,
-        } => 0x2000000 + 0x10000 * (b as u32) + (a as u32),
-        Request::Input { port: p } => 0x3000000 + (p as u32),
-        Request::Output { port: p, byte: b } => 0x4000000 + 0x10000 * (b as u32) + (p as u32),
-        Request::Restart { byte: b } => 0x5000000 + 0x10000 * (b as u32),
+        Request::Read { address } => 0x1000000 + u32::from(address),
+        Request::Write { address, byte } => {
+            0x2000000 + 0x10000 * u32::from(byte) + u32::from(address)
+        }
+        Request::Input { port } => 0x3000000 + u32::from(port),
+        Request::Output { port, byte } => 0x4000000 + 0x10000 * u32::from(byte) + u32::from(port),
+        Request::Restart { byte } => 0x5000000 + 0x10000 * u32::from(byte),
     }
 }
 
 // The tests of one state: 8, 9 and 10, as a run of one state has them.
+#[tactic(auto, unfolding(crate::specs::Numbers::step_number))]
 pub(crate) fn step_number(m: Machine) -> u8
     ensures { result ≡ step_number m }
 {
-    let next = m.next;
     if !m.well() {
         return ILL_FORMED;
     }
-    if m.clock == 4294967295 {
+    if m.clock == u32::MAX {
         return CLOCK_RANGE;
     }
-    if stopped(next) {
+    if stopped(m.next) {
         return STOPPED;
     }
     DONE
 }
 
+// A number with a count beside it: the number, and 256 times the count, of which 56 bits count.
+#[tactic(auto, unfolding(crate::specs::Numbers::beside_of))]
+pub(crate) fn beside(number: u8, count: usize) -> u64
+    ensures { result ≡ beside_of number count }
+{
+    u64::from(number) + 256 * (count % 0x100000000000000) as u64
+}
+
 // A run's answer: its number, and 256 times the states done.
+#[tactic(auto, unfolding(crate::specs::Numbers::run_number, crate::specs::Numbers::beside_of))]
 pub(crate) fn run_number(a: Answer) -> u64
     requires { (ran_of a).states ≤ 4294967295 }
     ensures { result ≡ run_number a }
 {
-    (number(a) as u64) + 256 * (ran(a).states as u64)
-}
-
-// A number with a count beside it: the number, and 256 times the count, of which 56 bits count.
-pub(crate) fn beside(number: u8, count: usize) -> u64
-    ensures { result ≡ beside_of number count }
-{
-    (number as u64) + 256 * ((count % 0x100000000000000) as u64)
+    beside(number(a), ran(a).states)
 }

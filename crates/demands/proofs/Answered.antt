@@ -1,4 +1,5 @@
 -- What a call that is answered with 0 or 10 says of its arguments and its states. Assumes nothing.
+use Rattle.std.specs.Prelude.{Result, Ok, Err}
 use Prim.Native.Nat.{ℕ, ◌+◌, ◌*◌, ◌≤◌}
 use mathlib.Core.Path.{◌≡◌, refl}
 use mathlib.Core.Bool.{Bool, true, false, ◌&&◌}
@@ -13,8 +14,6 @@ use Rattle.machine.specs.Well.{well_of}
 use Rattle.run.specs.declared.answer.Refusal.{Refusal}
 use Rattle.run.specs.declared.answer.Refusal.TheVariants.{MemorySize, PortSize, TooManyStates, TraceShort, IllFormed}
 use Rattle.run.specs.declared.answer.Refusal.TheVariants.{ClockRange}
-use Rattle.run.specs.declared.answer.Verdict.{Verdict}
-use Rattle.run.specs.declared.answer.Verdict.TheVariants as verdict
 use Rattle.run.specs.declared.answer.Ran.{Ran}
 use Rattle.run.specs.declared.answer.Answer.{Answer}
 use Rattle.run.specs.declared.answer.Answer.TheVariants.{Done, Stopped, Refused}
@@ -24,26 +23,26 @@ use Rattle.run.specs.Outcome.{verdict_of, ran_in, answered_of, answer_by, answer
 use Rattle.run.proofs.Passed.{check_fit}
 
 -- a good verdict on tests one after the other
-right_good : (a b : Verdict) → and_then a b ≡ verdict.Good → b ≡ verdict.Good
-right_good verdict.Good b e = e
-right_good (verdict.Refused r) b e = absurd (let z : ◌≡◌ {A = ℕ} 0 1 = cc in let no : ⊥ = omega arith in no)
+right_good : (a b : Result (Unit {0}) Refusal) → and_then a b ≡ Ok tt → b ≡ Ok tt
+right_good (Ok u) b e = e
+right_good (Err r) b e = absurd (let z : ◌≡◌ {A = ℕ} 0 1 = cc in let no : ⊥ = omega arith in no)
 
-left_good : (a b : Verdict) → and_then a b ≡ verdict.Good → a ≡ verdict.Good
-left_good verdict.Good b e = refl
-left_good (verdict.Refused r) b e = e
+left_good : (a b : Result (Unit {0}) Refusal) → and_then a b ≡ Ok tt → a ≡ Ok tt
+left_good (Ok u) b e = refl
+left_good (Err r) b e = e
 
-holds_good : (t : Bool) (r : Refusal) → unless t r ≡ verdict.Good → t ≡ true
+holds_good : (t : Bool) (r : Refusal) → unless t r ≡ Ok tt → t ≡ true
 holds_good true r e = refl
 holds_good false r e = absurd (let z : ◌≡◌ {A = ℕ} 0 1 = cc in let no : ⊥ = omega arith in no)
 
 -- the test of the record, among the others
-record_good : (a b : Bool) (v : Verdict) (c d e f : Bool)
+record_good : (a b : Bool) (v : Result (Unit {0}) Refusal) (c d e f : Bool)
     → and_then (unless a MemorySize)
     (and_then (unless b PortSize)
     (and_then v
     (and_then (unless c TooManyStates)
     (and_then (unless d TraceShort) (and_then (unless e IllFormed) (unless f ClockRange))))))
-    ≡ verdict.Good
+    ≡ Ok tt
     → e ≡ true
 record_good a b v c d e f q =
     let v6 = and_then (unless e IllFormed) (unless f ClockRange) in
@@ -58,7 +57,7 @@ record_good a b v c d e f q =
 
 -- a run that answers with 0 or 10 has passed the tests, has not stopped or has, and answers what its states did
 pub record Good (stopped : Bool) (w : World) (inputs s : List ℕ) (n : ℕ) (r : Ran) : Type 0 where
-  pub verdict : verdict_of w inputs s n ≡ verdict.Good
+  pub verdict : verdict_of w inputs s n ≡ Ok tt
   pub ends : stopped_of (run_of s inputs n w).machine.next ≡ stopped
   pub ran : r ≡ ran_in (run_of s inputs n w)
 
@@ -76,12 +75,12 @@ refused : {A : Type 0} (q : Refusal) (c : Bool) (x r : Ran) → Refused q x ≡ 
 refused q true x r e = absurd (let z : ◌≡◌ {A = ℕ} 0 1 = cc in let no : ⊥ = omega arith in no)
 refused q false x r e = absurd (let z : ◌≡◌ {A = ℕ} 0 1 = cc in let no : ⊥ = omega arith in no)
 
-by_verdict : (v : Verdict) (c : Bool) (w x : World) (r : Ran) → answer_by v x w ≡ answering c r
-    → (v ≡ verdict.Good) × (stopped_of x.machine.next ≡ c) × (r ≡ ran_in x)
+by_verdict : (v : Result (Unit {0}) Refusal) (c : Bool) (w x : World) (r : Ran) → answer_by v x w ≡ answering c r
+    → (v ≡ Ok tt) × (stopped_of x.machine.next ≡ c) × (r ≡ ran_in x)
 unfolding answered_of
-by_verdict verdict.Good c w x r e =
+by_verdict (Ok u) c w x r e =
     let (f, g) = ended_as (stopped_of x.machine.next) c (ran_in x) r e in (refl, f, g)
-by_verdict (verdict.Refused q) c w x r e = refused q c (ran_in w) r e
+by_verdict (Err q) c w x r e = refused q c (ran_in w) r e
 
 module _ (w : World) (inputs s : List ℕ) (n : ℕ) where
   pub answer_good : (stopped : Bool) (r : Ran) → answer_of w inputs s n ≡ answering stopped r → Good stopped w inputs s n r
@@ -91,15 +90,15 @@ module _ (w : World) (inputs s : List ℕ) (n : ℕ) where
       record { verdict = f; ends = g; ran = h }
 
   -- what the tests say
-  pub good_time : verdict_of w inputs s n ≡ verdict.Good → w.machine.clock + n ≤ 4294967295
+  pub good_time : verdict_of w inputs s n ≡ Ok tt → w.machine.clock + n ≤ 4294967295
   unfolding verdict_of
   good_time e = (check_fit w.machine w.memory inputs w.outputs s w.trace n e).time
 
-  pub good_room : verdict_of w inputs s n ≡ verdict.Good → 8 * n ≤ length w.trace
+  pub good_room : verdict_of w inputs s n ≡ Ok tt → 8 * n ≤ length w.trace
   unfolding verdict_of
   good_room e = (check_fit w.machine w.memory inputs w.outputs s w.trace n e).room
 
-  pub good_well : verdict_of w inputs s n ≡ verdict.Good → T (well_of w.machine)
+  pub good_well : verdict_of w inputs s n ≡ Ok tt → T (well_of w.machine)
   unfolding verdict_of check_of states_verdict
   good_well e =
       true→T (well_of w.machine)

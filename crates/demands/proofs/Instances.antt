@@ -1,5 +1,6 @@
 -- The theorems of demands 2 and 3 at a run of a cold machine: NOP with READY down in states 1 and 2, which takes 6 states, 2 of
 -- them waits. So what they ask can be met. Assumes nothing.
+use Rattle.std.specs.Prelude.{Ok}
 use Prim.Native.Nat.{ℕ, zero, suc, ◌+◌, ◌<◌}
 use mathlib.Core.Path.{◌≡◌, refl, sym, ap, ◌∙◌, subst}
 use mathlib.Core.Bool.{true, false}
@@ -7,7 +8,6 @@ use mathlib.Core.List.{List, [], ◌∷◌}
 use native.Mathlib.Omega.{arith}
 use lib.ListN.{replicate}
 use Rattle.machine.specs.Record.{cold_of, stopped_of}
-use Rattle.run.specs.declared.answer.Verdict.TheVariants.{Good}
 use Rattle.run.specs.declared.answer.Answer.TheVariants.{Done}
 use Rattle.run.specs.Run.{World, run_of}
 use Rattle.run.specs.Check.{check_of}
@@ -43,11 +43,11 @@ dip = 1 ∷ 0 ∷ 0 ∷ 0 ∷ 0 ∷ 0 ∷ 3 ∷ 0 ∷ 0 ∷ 0 ∷ 0 ∷ 1 ∷ []
 abbrev world : World
 world = world_on still (replicate 48 0)
 
-fair : check_of cold_of 65536 256 256 dip 48 6 ≡ Good
+fair : check_of cold_of 65536 256 256 dip 48 6 ≡ Ok tt
 unfolding everything
 fair = refl
 
-passes : verdict_of world ports dip 6 ≡ Good
+passes : verdict_of world ports dip 6 ≡ Ok tt
 passes = lengths_good cold_of still.memory dip 48 6 (zeros 65536) fair
 
 awake : stopped_of (run_of dip ports 6 world).machine.next ≡ false

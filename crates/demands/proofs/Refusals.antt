@@ -1,4 +1,5 @@
 -- Demand 1 for `run`. Assumes nothing.
+use Rattle.std.specs.Prelude.{Result, Ok, Err}
 use Prim.Native.Nat.{ℕ}
 use mathlib.Core.Path.{◌≡◌, refl, sym, ap, ◌∙◌, subst}
 use mathlib.Core.Bool.{Bool, true, false, false≢true}
@@ -11,8 +12,6 @@ use Rattle.laws.proofs.Order.{lt_or_le}
 use Rattle.machine.specs.declared.record.Position.TheVariants.{Stop}
 use Rattle.machine.specs.Record.{stopped_of}
 use Rattle.run.specs.declared.answer.Refusal.{Refusal}
-use Rattle.run.specs.declared.answer.Verdict.{Verdict}
-use Rattle.run.specs.declared.answer.Verdict.TheVariants as verdict
 use Rattle.run.specs.declared.answer.Answer.{Answer}
 use Rattle.run.specs.declared.answer.Answer.TheVariants.{Done, Stopped, Refused}
 use Rattle.run.specs.Answer.{refusal_number}
@@ -108,12 +107,12 @@ module _ (c : Call) where
         rest = λ i h. run_rest c.schedule c.inputs c.states (before c) i h;
       }
 
-  by_verdict : (v : Verdict) → Sound c v
+  by_verdict : (v : Result (Unit {0}) Refusal) → Sound c v
       → Taken c (answer_by v after (before c)) (left_by v after (before c)).memory (left_by v after (before c)).outputs
       (left_by v after (before c)).trace
   unfolding answered_of
-  by_verdict verdict.Good s = going (stopped_of after.machine.next) refl s
-  by_verdict (verdict.Refused q) s = refusing q s
+  by_verdict (Ok u) s = going (stopped_of after.machine.next) refl s
+  by_verdict (Err q) s = refusing q s
 
   allowed : (r : Answer) (x o l : List ℕ) → Allowed c r x o l → Taken c r x o l
   unfolding answer_of left_of

@@ -1,13 +1,13 @@
 -- The printed sample, computed. Assumes nothing.
+use Rattle.std.specs.Prelude.{Ok}
 use mathlib.Core.Path.{◌≡◌, refl}
 use Rattle.machine.specs.declared.record.Position.TheVariants.{Halt}
-use Rattle.run.specs.declared.answer.Verdict.TheVariants as verdict
 use Rattle.demands.specs.Cards.{Passes}
 use Rattle.demands.specs.Sample.{lines_of, sample, printed, Sample}
 use Rattle.demands.proofs.Cards.{fair, ran, left_is, passes}
 use Rattle.demands.proofs.Open.{everything}
 
-good : fair sample ≡ verdict.Good
+good : fair sample ≡ Ok tt
 unfolding everything sample
 good = refl
 

@@ -1,12 +1,12 @@
 -- The theorem of a run that stops at one of a cold machine: an undefined opcode stops it in the third of five states asked. So
 -- what it asks can be met. Assumes nothing.
+use Rattle.std.specs.Prelude.{Ok}
 use Prim.Native.Nat.{suc}
 use mathlib.Core.Path.{◌≡◌, refl, ap, ◌∙◌}
 use mathlib.Core.Bool.{true}
 use mathlib.Core.List.{[], ◌∷◌}
 use lib.ListN.{replicate}
 use Rattle.machine.specs.Record.{cold_of, stopped_of}
-use Rattle.run.specs.declared.answer.Verdict.TheVariants.{Good}
 use Rattle.run.specs.declared.answer.Answer.TheVariants.{Stopped}
 use Rattle.run.specs.Run.{World, run_of}
 use Rattle.run.specs.Check.{check_of}
@@ -28,11 +28,11 @@ eight = record { machine = cold_of; memory = 0x08 ∷ replicate 65535 0; outputs
 abbrev five : World
 five = world_on eight (replicate 40 0)
 
-fair : check_of cold_of 65536 256 256 [] 40 5 ≡ Good
+fair : check_of cold_of 65536 256 256 [] 40 5 ≡ Ok tt
 unfolding everything
 fair = refl
 
-passes : verdict_of five ports [] 5 ≡ Good
+passes : verdict_of five ports [] 5 ≡ Ok tt
 passes = lengths_good cold_of eight.memory [] 40 5 (ap suc (zeros 65535)) fair
 
 stops : stopped_of (run_of [] ports 5 five).machine.next ≡ true

@@ -1,11 +1,12 @@
 -- The verdict on a save or a load is the first condition of its table that holds. Assumes nothing.
+use Rattle.std.specs.Prelude.{Result, Ok, Err, is_some}
 use Prim.Native.Nat.{ℕ}
 use mathlib.Core.Path.{◌≡◌, refl, sym, ap, ◌∙◌}
 use mathlib.Core.Bool.{Bool, true, false}
 use mathlib.Core.List.{List, [], ◌∷◌}
 use mathlib.Core.Logic.{inl, inr, ⊎_elim}
 use native.Mathlib.Omega.{arith}
-use lib.Dec.{eqb, ltb}
+use lib.Dec.{eqb}
 use lib.ListN.{length, get_or}
 use Rattle.opcodes.specs.Kinds.{is_none}
 use Rattle.opcodes.specs.declared.cycle.Acknowledge.{Acknowledge}
@@ -17,8 +18,6 @@ use Rattle.machine.specs.declared.record.Machine.{Machine}
 use Rattle.machine.specs.Well.{well_of}
 use Rattle.saved.specs.declared.answer.Refusal.{Refusal}
 use Rattle.saved.specs.declared.answer.Refusal.TheVariants as refusal
-use Rattle.saved.specs.declared.answer.Verdict.{Verdict}
-use Rattle.saved.specs.declared.answer.Verdict.TheVariants as verdict
 use Rattle.saved.specs.Answer.{refusal_number}
 use Rattle.saved.specs.Header.{fetch_mode, mode_of, between_of}
 use Rattle.saved.specs.Fields.{lines_in, in_range}
@@ -57,13 +56,13 @@ not_zero refusal.FieldRange e = absurd (let no : ⊥ = omega (arith, e) in no)
 not_zero refusal.OutputSize e = absurd (let no : ⊥ = omega (arith, e) in no)
 
 -- a mode applies
-fetch_shows : (a : Acknowledge) → Shows (ltb (fetch_mode a) 3) (is_none a ≡ true)
+fetch_shows : (a : Acknowledge) → Shows (is_some (fetch_mode a)) (is_none a ≡ true)
 unfolding fetch_mode
 fetch_shows ack.None = shows_true true
 fetch_shows ack.Running = shows_true false
 fetch_shows ack.Halted = shows_true false
 
-mode_shows : (k : Kept) (p : Position) → Shows (ltb (mode_of k p) 3) (HasMode k p)
+mode_shows : (k : Kept) (p : Position) → Shows (is_some (mode_of k p)) (HasMode k p)
 unfolding mode_of
 mode_shows k Fetch = fetch_shows k.ack
 mode_shows k (Later c s) = never
@@ -91,13 +90,13 @@ range_bars s =
 
 -- tests one after the other: what their verdict says, and that it says it of one refusal only
 module _ (Given : Refusal → Type 0) where
-  abbrev pub Sound : List Refusal → Verdict → Type 0
-  Sound ps verdict.Good = None Given ps
-  Sound ps (verdict.Refused q) = FirstOf Given ps q
+  abbrev pub Sound : List Refusal → Result (Unit {0}) Refusal → Type 0
+  Sound ps (Ok u) = None Given ps
+  Sound ps (Err q) = FirstOf Given ps q
 
-  step : (p : Refusal) (ps : List Refusal) (b : Bool) (v : Verdict) → Bars b (Given p) → Sound ps v → Sound (p ∷ ps) (pass b p v)
-  step p ps true verdict.Good d s = (d.pass refl, s)
-  step p ps true (verdict.Refused q) d s = inr (d.pass refl, s)
+  step : (p : Refusal) (ps : List Refusal) (b : Bool) (v : Result (Unit {0}) Refusal) → Bars b (Given p) → Sound ps v → Sound (p ∷ ps) (pass b p v)
+  step p ps true (Ok u) d s = (d.pass refl, s)
+  step p ps true (Err q) d s = inr (d.pass refl, s)
   step p ps false v d s = inl (refl, d.fail refl)
 
   pub one_first : (ps : List Refusal) (q q' : Refusal) → FirstOf Given ps q → FirstOf Given ps q' → q ≡ q'
@@ -122,7 +121,7 @@ save_sound m x o z =
     (step G refusal.PortSize from_form (eqb (length o) 256) _ (bars_not (shows_eqb (length o) 256))
     (step G refusal.IllFormed from_inside (well_of m) _ (well_bars m)
     (step G refusal.InsideInstruction from_output (between_of m) _ (between_bars m)
-    (step G refusal.OutputSize [] (eqb (length z) 65816) verdict.Good (bars_not (shows_eqb (length z) 65816)) tt))))
+    (step G refusal.OutputSize [] (eqb (length z) 65816) (Ok tt) (bars_not (shows_eqb (length z) 65816)) tt))))
 
 pub load_sound : (s x o : List ℕ) → Sound (LoadGiven s x o) load_tests (load_verdict s (length x) (length o))
 unfolding load_verdict
@@ -133,4 +132,4 @@ load_sound s x o =
     step G refusal.SavedSize (refusal.FieldRange ∷ from_memory) (eqb (length s) 65816) _ (bars_not (shows_eqb (length s) 65816))
     (step G refusal.FieldRange from_memory (in_range s) _ (range_bars s)
     (step G refusal.MemorySize from_ports (eqb (length x) 65536) _ (bars_not (shows_eqb (length x) 65536))
-    (step G refusal.PortSize [] (eqb (length o) 256) verdict.Good (bars_not (shows_eqb (length o) 256)) tt)))
+    (step G refusal.PortSize [] (eqb (length o) 256) (Ok tt) (bars_not (shows_eqb (length o) 256)) tt)))

@@ -1,4 +1,5 @@
 -- The bound of 18 is met, by computing the states of an XTHL. Assumes nothing.
+use Rattle.std.specs.Prelude.{Ok}
 use Prim.Native.Nat.{ℕ, suc, ◌+◌, ◌<◌}
 use mathlib.Core.Path.{◌≡◌, refl, sym, ap, ◌∙◌, subst}
 use mathlib.Core.Bool.{Bool, true, false, not, ◌||◌, true≢false}
@@ -11,7 +12,6 @@ use Rattle.laws.proofs.Every.{every, below}
 use Rattle.laws.specs.Choice.{pick}
 use Rattle.machine.specs.declared.record.Lines.{Lines}
 use Rattle.schedule.specs.Levels.{act_of}
-use Rattle.run.specs.declared.answer.Verdict.TheVariants.{Good}
 use Rattle.run.specs.Check.{check_of}
 use Rattle.run.specs.Outcome.{verdict_of}
 use Rattle.demands.specs.Outside.{int_in}
@@ -27,11 +27,11 @@ use Rattle.demands.proofs.Cards.{zeros, lengths_good}
 use Rattle.demands.proofs.Calling.{same_boards}
 
 -- the run passes the tests
-fair : check_of xthl.machine 65536 256 256 rising 144 18 ≡ Good
+fair : check_of xthl.machine 65536 256 256 rising 144 18 ≡ Ok tt
 unfolding everything
 fair = refl
 
-passes : verdict_of (world_on xthl (replicate 144 0)) ports rising 18 ≡ Good
+passes : verdict_of (world_on xthl (replicate 144 0)) ports rising 18 ≡ Ok tt
 passes = lengths_good xthl.machine xthl.memory rising 144 18 (ap suc (zeros 65535)) fair
 
 reached : Reached rising ports xthl 18 (board_of (after 18))

@@ -1,4 +1,5 @@
 -- The verdict on a call of `run` is the first of the table's conditions that holds. Assumes nothing.
+use Rattle.std.specs.Prelude.{Result, Ok, Err}
 use Prim.Native.Nat.{ℕ, suc, ◌+◌, ◌-◌, ◌*◌, ◌/◌, ◌%◌, ◌<◌}
 use mathlib.Core.Path.{◌≡◌, refl, sym, ap, ◌∙◌, subst}
 use mathlib.Core.Bool.{Bool, true, false, ◌&&◌}
@@ -10,14 +11,12 @@ use lib.Dec.{lit<, eqb, ltb, leb}
 use lib.ListN.{length, get_or}
 use Rattle.laws.specs.Choice.{pick}
 use Rattle.machine.specs.Well.{well_of}
-use Rattle.schedule.specs.declared.order.Checked.TheVariants as checked
+use Rattle.schedule.specs.declared.order.Fault.TheVariants as fault
 use Rattle.schedule.specs.Events as events
 use Rattle.schedule.specs.Events.{line_of, value_of, listed_of, listed_at, follows_of, all, ordered_of, checked_of}
 use Rattle.run.specs.declared.answer.Refusal.{Refusal}
 use Rattle.run.specs.declared.answer.Refusal.TheVariants.{MemorySize, PortSize, ScheduleLength, EventValue, EventOrder}
 use Rattle.run.specs.declared.answer.Refusal.TheVariants.{TooManyStates, TraceShort, IllFormed, ClockRange}
-use Rattle.run.specs.declared.answer.Verdict.{Verdict}
-use Rattle.run.specs.declared.answer.Verdict.TheVariants.{Good, Refused}
 use Rattle.run.specs.Answer.{refusal_number}
 use Rattle.run.specs.Check.{and_then, unless, of_schedule, schedule_verdict, states_verdict, check_of}
 use Rattle.run.specs.Run.{World}
@@ -93,9 +92,9 @@ module _ (c : Call) where
   Clear k = (p : Refusal) → refusal_number p < k → Not (Given c p)
 
   -- what a verdict says of the call
-  abbrev pub Sound : Verdict → Type 0
-  Sound Good = (q : Refusal) → Not (Given c q)
-  Sound (Refused q) = First c q
+  abbrev pub Sound : Result (Unit {0}) Refusal → Type 0
+  Sound (Ok u) = (q : Refusal) → Not (Given c q)
+  Sound (Err q) = First c q
 
   clear_next : (q : Refusal) → Clear (refusal_number q) → Not (Given c q) → Clear (suc (refusal_number q))
   clear_next q f g p l =
@@ -103,7 +102,7 @@ module _ (c : Call) where
       (eq-or-lt_of_le (le_of_suc-le-suc l))
 
   -- one test more
-  step : (q : Refusal) (b : Bool) (v : Verdict) → Bars b (Given c q) → Clear (refusal_number q)
+  step : (q : Refusal) (b : Bool) (v : Result (Unit {0}) Refusal) → Bars b (Given c q) → Clear (refusal_number q)
       → (Clear (suc (refusal_number q)) → Sound v) → Sound (and_then (unless b q) v)
   step q true v d f g = g (clear_next q f (d.pass refl))
   step q false v d f g = (d.fail refl, f)
@@ -112,9 +111,9 @@ module _ (c : Call) where
   final true d f = λ q. clear_next ClockRange f (d.pass refl) q (number_range q).1
   final false d f = (d.fail refl, f)
 
-  steps : (a b d : Bool) (v : Verdict) → Bars a (Given c ScheduleLength) → Bars b (Given c EventValue)
+  steps : (a b d : Bool) (v : Result (Unit {0}) Refusal) → Bars a (Given c ScheduleLength) → Bars b (Given c EventValue)
       → Bars d (Given c EventOrder) → Clear 3 → (Clear 6 → Sound v)
-      → Sound (and_then (of_schedule (pick a (pick b (pick d checked.Good checked.Order) checked.Value) checked.Length)) v)
+      → Sound (and_then (of_schedule (pick a (pick b (pick d (Ok tt) (Err fault.Order)) (Err fault.Value)) (Err fault.Length))) v)
   steps false b d v x y z f g = (x.fail refl, f)
   steps true false d v x y z f g = (y.fail refl, clear_next ScheduleLength f (x.pass refl))
   steps true true false v x y z f g =

@@ -1,9 +1,8 @@
 -- A run made in calls of the public `run`, one after the other, with one schedule, the same input ports and nothing altered
 -- between them; each call has a trace of its own. Cited by the statements of demands 2 and 3.
-use Rattle.std.specs.Prelude.{ℕ, ◌+◌, ◌≤◌, ◌≡◌, List}
+use Rattle.std.specs.Prelude.{ℕ, ◌+◌, ◌≤◌, ◌≡◌, List, Ok}
 use Rattle.run.specs.declared.answer.Ran.{Ran}
 use Rattle.run.specs.declared.answer.Answer.TheVariants.{Done}
-use Rattle.run.specs.declared.answer.Verdict.TheVariants.{Good}
 use Rattle.run.specs.Run.{World, run_of}
 use Rattle.run.specs.Outcome.{start_of, verdict_of, left_of, answer_of}
 use Rattle.demands.specs.Board.{Board, board_of}
@@ -27,7 +26,7 @@ pub data Calls (s inputs : List ℕ) : Board → ℕ → Board → Type 0 where
 -- the board after k states of such a run: k of the n states of a call that passes the tests, or those of a call that is
 -- answered with 0, and then more
 pub data Reached (s inputs : List ℕ) : Board → ℕ → Board → Type 0 where
-  amid : {b : Board} (l : List ℕ) (n k : ℕ) → verdict_of (world_on b l) inputs s n ≡ Good → k ≤ n
+  amid : {b : Board} (l : List ℕ) (n k : ℕ) → verdict_of (world_on b l) inputs s n ≡ Ok tt → k ≤ n
       → Reached s inputs b k (board_of (run_of s inputs k (world_on b l)))
   after : {b b' : Board} {k : ℕ} (l : List ℕ) (n : ℕ) (r : Ran) → answer_of (world_on b l) inputs s n ≡ Done r
       → Reached s inputs (given_back (world_on b l) inputs s n r) k b' → Reached s inputs b (r.states + k) b'

@@ -1,6 +1,6 @@
 -- The refusals of `save` and `load`, for demand 1: their tables in document 01, "Numbers returned", as plain conditions in the order
 -- in which they are tested, and what an answer has to do with them. Proved in proofs/Saving.
-use Rattle.std.specs.Prelude.{ℕ, ◌<◌, ◌≡◌, true, List, [], ◌∷◌, ◌↔◌, length, get_or}
+use Rattle.std.specs.Prelude.{ℕ, ◌<◌, ◌≡◌, true, List, [], ◌∷◌, ◌↔◌, length, get_or, Result, Ok, Err}
 use Rattle.opcodes.specs.Kinds.{is_none}
 use Rattle.effect.specs.declared.kept.Kept.{Kept}
 use Rattle.machine.specs.declared.record.Position.{Position}
@@ -8,9 +8,7 @@ use Rattle.machine.specs.declared.record.Position.TheVariants.{Fetch, Later, Wai
 use Rattle.machine.specs.declared.record.Machine.{Machine}
 use Rattle.saved.specs.declared.answer.Refusal.{Refusal}
 use Rattle.saved.specs.declared.answer.Refusal.TheVariants as refusal
-use Rattle.saved.specs.declared.answer.Saving.{Saving}
-use Rattle.saved.specs.declared.answer.Loading.{Loading}
-use Rattle.saved.specs.declared.answer.Loading.TheVariants.{Loaded, Refused}
+use Rattle.saved.specs.declared.answer.NotLoaded.{NotLoaded}
 use Rattle.saved.specs.Answer.{refusal_number, saving_number, loading_number}
 use Rattle.saved.specs.Outcome.{Saves, Loads}
 use Rattle.demands.specs.IllFormed.{◌or◌, ◌and◌, Not, WrongBit, IllFormed}
@@ -72,28 +70,28 @@ LoadGiven s x o refusal.FieldRange = OutOfRange s
 LoadGiven s x o refusal.OutputSize = ⊥
 
 -- the machine that a load hands back
-abbrev pub handed_back : Loading → Machine
-handed_back (Loaded machine) = machine
-handed_back (Refused reason machine) = machine
+abbrev pub handed_back : Result Machine NotLoaded → Machine
+handed_back (Ok machine) = machine
+handed_back (Err fault) = fault.machine
 
 -- what a save may answer, and leave in the output: a number exactly when it is the first of its table, and then no byte is changed
-pub record SaveTaken (m : Machine) (x o z : List ℕ) (r : Saving) (z' : List ℕ) : Type 0 where
+pub record SaveTaken (m : Machine) (x o z : List ℕ) (r : Result (Unit {0}) Refusal) (z' : List ℕ) : Type 0 where
   pub refused : (q : Refusal) → (saving_number r ≡ refusal_number q) ↔ FirstOf (SaveGiven m x o z) save_tests q
   pub unchanged : (q : Refusal) → saving_number r ≡ refusal_number q → z' ≡ z
   pub accepted : (saving_number r ≡ 0) ↔ None (SaveGiven m x o z) save_tests
 
 -- and a load, in memory x' and output ports o': then the machine is the one that it was handed, too
-pub record LoadTaken (m : Machine) (s x o : List ℕ) (r : Loading) (x' o' : List ℕ) : Type 0 where
+pub record LoadTaken (m : Machine) (s x o : List ℕ) (r : Result Machine NotLoaded) (x' o' : List ℕ) : Type 0 where
   pub refused : (q : Refusal) → (loading_number r ≡ refusal_number q) ↔ FirstOf (LoadGiven s x o) load_tests q
   pub unchanged : (q : Refusal) → loading_number r ≡ refusal_number q → (handed_back r ≡ m) × (x' ≡ x) × (o' ≡ o)
   pub accepted : (loading_number r ≡ 0) ↔ None (LoadGiven s x o) load_tests
 
 -- demand 1 for `save` and for `load`: what the contract allows is so, and two results that it allows coincide
 pub record SavesOrRefuses : Type 0 where
-  pub saves : (m : Machine) (x o z : List ℕ) (r : Saving) (z' : List ℕ) → Saves m x o z r z' → SaveTaken m x o z r z'
-  pub saves_once : (m : Machine) (x o z z₁ z₂ : List ℕ) (r r' : Saving) → Saves m x o z r z₁ → Saves m x o z r' z₂
+  pub saves : (m : Machine) (x o z : List ℕ) (r : Result (Unit {0}) Refusal) (z' : List ℕ) → Saves m x o z r z' → SaveTaken m x o z r z'
+  pub saves_once : (m : Machine) (x o z z₁ z₂ : List ℕ) (r r' : Result (Unit {0}) Refusal) → Saves m x o z r z₁ → Saves m x o z r' z₂
       → (r ≡ r') × (z₁ ≡ z₂)
-  pub loads : (m : Machine) (s x o : List ℕ) (r : Loading) (x' o' : List ℕ) → Loads m s x o r x' o'
+  pub loads : (m : Machine) (s x o : List ℕ) (r : Result Machine NotLoaded) (x' o' : List ℕ) → Loads m s x o r x' o'
       → LoadTaken m s x o r x' o'
-  pub loads_once : (m : Machine) (s x o x₁ o₁ x₂ o₂ : List ℕ) (r r' : Loading) → Loads m s x o r x₁ o₁
+  pub loads_once : (m : Machine) (s x o x₁ o₁ x₂ o₂ : List ℕ) (r r' : Result Machine NotLoaded) → Loads m s x o r x₁ o₁
       → Loads m s x o r' x₂ o₂ → (r ≡ r') × (x₁ ≡ x₂) × (o₁ ≡ o₂)

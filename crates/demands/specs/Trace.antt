@@ -1,9 +1,8 @@
 -- Demand 2, last sentence: "The trace shows each state as it was."
-use Rattle.std.specs.Prelude.{ℕ, ◌+◌, ◌*◌, ◌<◌, ◌≡◌, List, get_or}
+use Rattle.std.specs.Prelude.{ℕ, ◌+◌, ◌*◌, ◌<◌, ◌≡◌, List, get_or, Ok}
 use Rattle.machine.specs.declared.row.Row.{Row}
 use Rattle.machine.specs.Look.{look_of}
 use Rattle.machine.specs.Row.{row_of}
-use Rattle.run.specs.declared.answer.Verdict.TheVariants.{Good}
 use Rattle.run.specs.State.{heard}
 use Rattle.run.specs.Run.{World, eventful_of, run_of}
 use Rattle.run.specs.Outcome.{verdict_of, left_of}
@@ -31,6 +30,6 @@ shown_by s inputs w =
 -- after a run that passes the tests, row j of the trace is what state j of it showed, of the states that were done
 abbrev pub TraceShows : Type 0
 TraceShows =
-    (w : World) (inputs s : List ℕ) (n : ℕ) → w.states ≡ 0 → verdict_of w inputs s n ≡ Good
+    (w : World) (inputs s : List ℕ) (n : ℕ) → w.states ≡ 0 → verdict_of w inputs s n ≡ Ok tt
     → (j : ℕ) → j < (left_of w inputs s n).states
     → row_in (left_of w inputs s n).trace j ≡ shown_by s inputs (run_of s inputs j w)

@@ -1,5 +1,5 @@
 -- What an instruction's last state does to the registers, from the bytes read. Source: Intel's 8080 manual.
--- Cited by `effect::low`, `middle`, `high` and `last`.
+-- Cited by `effect::operations`, `low`, `high` and `last`.
 use Rattle.std.specs.Prelude.{ℕ, ◌*◌, Bool, true, false}
 use Rattle.laws.specs.Choice.{pick}
 use Rattle.alu.specs.Flags.{flags_of, with_cy}

@@ -4,3 +4,4 @@ pub mod Pairs
 pub mod Kept
 pub mod Bus
 pub mod Effect
+pub mod Last

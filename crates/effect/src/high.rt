@@ -1,146 +1,138 @@
-// The opcodes C0 to FF: jumps, calls and returns, the stack, ports, and arithmetic with an operand.
+// The opcodes C0 to FF, by their lower digits y and z: jumps, calls and returns, the stack, ports, arithmetic with an operand.
 ghost use Rattle.std.specs.Prelude.{◌≡◌, ◌/◌, ◌<◌};
-ghost use Rattle.opcodes.specs.Instructions.{even, rets, calls, others, decode3, rcc, jcc, ccc, push, pop, rst};
-ghost use Rattle.effect.specs.Effect.{returned, jumped, called, finish};
+ghost use Rattle.opcodes.specs.Instructions.{even, rets, calls, others, decode3, push, pop};
+ghost use Rattle.effect.specs.Effect.{returned, jumped, called};
+ghost use Rattle.effect.specs.Last.{after_last};
 
-use crate::kept::{Kept, wz};
-use crate::middle::compute;
-use crate::registers::{Registers, pop_pair};
+use crate::last::Last;
+use crate::registers::Registers;
 use alu::words::{down, up};
 
-// PC from the stack.
-fn return_from(k: Kept, r: Registers) -> Registers
-    ensures { result ≡ returned k r }
-{
-    let pc = wz(k);
-    let sp = up(r.sp, 2);
-    Registers {
-        pc: pc,
-        sp: sp,
-        ..r
+impl Last {
+    // PC from the stack.
+    #[tactic(auto, unfolding(crate::specs::Effect::returned))]
+    fn returned(&self) -> Registers
+        ensures { result ≡ returned self.now.kept self.now.regs }
+    {
+        Registers {
+            pc: self.kept.wz(),
+            sp: up(self.regs.sp, 2),
+            ..self.regs
+        }
     }
-}
 
-// PC from the address read.
-fn jump_to(k: Kept, r: Registers) -> Registers
-    ensures { result ≡ jumped k r }
-{
-    let pc = wz(k);
-    Registers { pc: pc, ..r }
-}
-
-// PC to the given address, two bytes having been pushed.
-fn call_to(pc: u16, r: Registers) -> Registers
-    ensures { result ≡ called pc r }
-{
-    let sp = down(r.sp, 2);
-    Registers {
-        pc: pc,
-        sp: sp,
-        ..r
+    // PC from the address read.
+    #[tactic(auto, unfolding(crate::specs::Effect::jumped))]
+    fn jumped(&self) -> Registers
+        ensures { result ≡ jumped self.now.kept self.now.regs }
+    {
+        Registers {
+            pc: self.kept.wz(),
+            ..self.regs
+        }
     }
-}
 
-fn ret_if(met: bool, k: Kept, r: Registers) -> Registers
-    ensures { result ≡ finish rcc met k r }
-{
-    if met { return_from(k, r) } else { r }
-}
-
-fn jump_if(met: bool, k: Kept, r: Registers) -> Registers
-    ensures { result ≡ finish jcc met k r }
-{
-    if met { jump_to(k, r) } else { r }
-}
-
-fn call_if(met: bool, k: Kept, r: Registers) -> Registers
-    ensures { result ≡ finish ccc met k r }
-{
-    if met { call_to(wz(k), r) } else { r }
-}
-
-// RET, PCHL, SPHL.
-fn ret_any(p: u8, met: bool, k: Kept, r: Registers) -> Registers
-    requires { p < 4 }
-    ensures { result ≡ finish (rets p) met k r }
-{
-    let hl = (r.h as u16) * 256 + (r.l as u16);
-    match p {
-        0 => return_from(k, r),
-        1 => r,
-        2 => Registers { pc: hl, ..r },
-        _ => Registers { sp: hl, ..r },
+    // PC to the given address, two bytes having been pushed.
+    #[tactic(auto, unfolding(crate::specs::Effect::called))]
+    fn called(&self, pc: u16) -> Registers
+        ensures { result ≡ called pc self.now.regs }
+    {
+        Registers {
+            pc,
+            sp: down(self.regs.sp, 2),
+            ..self.regs
+        }
     }
-}
 
-fn pop_ret(y: u8, met: bool, k: Kept, r: Registers) -> Registers
-    requires { y < 8 }
-    ensures { result ≡ finish (even y (pop (y / 2)) (rets (y / 2))) met k r }
-{
-    if y % 2 == 0 {
-        pop_pair(y / 2, k.b2, k.b1, r)
-    } else {
-        ret_any(y / 2, met, k, r)
+    // POP, RET, PCHL, SPHL.
+    #[tactic(auto, unfolding(crate::specs::Effect::finish, opcodes::specs::Instructions::even, opcodes::specs::Instructions::rets, opcodes::specs::Instructions::nth))]
+    fn pop_ret(&self, y: u8) -> Registers
+        requires { y < 8 }
+        ensures { result ≡ after_last (even y (pop (y / 2)) (rets (y / 2))) self.now }
+    {
+        match y {
+            1 => self.returned(),
+            3 => self.regs,
+            5 => Registers {
+                pc: self.regs.hl(),
+                ..self.regs
+            },
+            7 => Registers {
+                sp: self.regs.hl(),
+                ..self.regs
+            },
+            _ => self.regs.pop_pair(y / 2, self.kept.b2, self.kept.b1),
+        }
     }
-}
 
-fn push_call(y: u8, met: bool, k: Kept, r: Registers) -> Registers
-    ensures { result ≡ finish (even y (push (y / 2)) (calls (y / 2))) met k r }
-{
-    if y % 2 == 0 {
-        let sp = down(r.sp, 2);
-        Registers { sp: sp, ..r }
-    } else {
-        if y / 2 == 0 { call_to(wz(k), r) } else { r }
+    // PUSH and CALL. The codes DD, ED and FD, undefined, leave the registers.
+    #[tactic(auto, unfolding(crate::specs::Effect::finish, opcodes::specs::Instructions::even, opcodes::specs::Instructions::calls))]
+    fn push_call(&self, y: u8) -> Registers
+        ensures { result ≡ after_last (even y (push (y / 2)) (calls (y / 2))) self.now }
+    {
+        if y % 2 == 0 {
+            Registers {
+                sp: down(self.regs.sp, 2),
+                ..self.regs
+            }
+        } else if y == 1 {
+            self.called(self.kept.wz())
+        } else {
+            self.regs
+        }
     }
-}
 
-// JMP, OUT, IN, XTHL, XCHG, DI, EI.
-fn other(y: u8, met: bool, k: Kept, r: Registers) -> Registers
-    requires { y < 8 }
-    ensures { result ≡ finish (others y) met k r }
-{
-    match y {
-        0 => jump_to(k, r),
-        1 => r,
-        2 => r,
-        3 => Registers { a: k.b2, ..r },
-        4 => Registers {
-            h: k.b2,
-            l: k.b1,
-            ..r
-        },
-        5 => Registers {
-            h: r.d,
-            l: r.e,
-            d: r.h,
-            e: r.l,
-            ..r
-        },
-        6 => Registers { inte: false, ..r },
-        _ => Registers { inte: true, ..r },
+    // JMP, OUT, IN, XTHL, XCHG, DI, EI.
+    #[tactic(auto, unfolding(crate::specs::Effect::finish, opcodes::specs::Instructions::others, opcodes::specs::Instructions::nth))]
+    fn other(&self, y: u8) -> Registers
+        ensures { result ≡ after_last (others y) self.now }
+    {
+        match y {
+            0 => self.jumped(),
+            3 => Registers {
+                a: self.kept.b2,
+                ..self.regs
+            },
+            4 => Registers {
+                h: self.kept.b2,
+                l: self.kept.b1,
+                ..self.regs
+            },
+            5 => Registers {
+                h: self.regs.d,
+                l: self.regs.e,
+                d: self.regs.h,
+                e: self.regs.l,
+                ..self.regs
+            },
+            6 => Registers {
+                inte: false,
+                ..self.regs
+            },
+            7 => Registers {
+                inte: true,
+                ..self.regs
+            },
+            _ => self.regs,
+        }
     }
-}
 
-fn restart(n: u8, met: bool, k: Kept, r: Registers) -> Registers
-    requires { n < 8 }
-    ensures { result ≡ finish (rst n) met k r }
-{
-    call_to(8 * (n as u16), r)
-}
-
-pub(crate) fn high(y: u8, z: u8, met: bool, k: Kept, r: Registers) -> Registers
-    requires { (y < 8) × (z < 8) }
-    ensures { result ≡ finish (decode3 y z) met k r }
-{
-    match z {
-        0 => ret_if(met, k, r),
-        1 => pop_ret(y, met, k, r),
-        2 => jump_if(met, k, r),
-        3 => other(y, met, k, r),
-        4 => call_if(met, k, r),
-        5 => push_call(y, met, k, r),
-        6 => compute(y, k.b1, r),
-        _ => restart(y, met, k, r),
+    // A return, a jump or a call whose condition is not met leaves the registers.
+    #[tactic(auto, unfolding(crate::specs::Effect::finish, opcodes::specs::Instructions::decode3, opcodes::specs::Instructions::nth, crate::specs::Effect::returned, crate::specs::Effect::jumped, crate::specs::Effect::called))]
+    pub(crate) fn high(&self, y: u8, z: u8) -> Registers
+        requires { (y < 8) × (z < 8) }
+        ensures { result ≡ after_last (decode3 y z) self.now }
+    {
+        match z {
+            0 | 2 | 4 if !self.met => self.regs,
+            0 => self.returned(),
+            1 => self.pop_ret(y),
+            2 => self.jumped(),
+            3 => self.other(y),
+            4 => self.called(self.kept.wz()),
+            5 => self.push_call(y),
+            6 => self.regs.computed(y, self.kept.b1),
+            _ => self.called(8 * u16::from(y)),
+        }
     }
 }

@@ -2,11 +2,12 @@
 ghost use Rattle.std.specs.Prelude.{◌≡◌};
 ghost use Rattle.effect.specs.Kept.{wz_of, keep_of, kept_for};
 
+use crate::registers::word;
 use opcodes::cycle::Acknowledge;
 
 // The opcode, whether it is an acknowledge and with which restart number, and the bytes read by cycles 2 to 5, in order.
 // What is not read yet is 0.
-#[derive(Clone, Copy)]
+#[derive(Clone, Copy, Debug, PartialEq, Eq)]
 pub struct Kept {
     pub opcode: u8,
     pub ack: Acknowledge,
@@ -17,13 +18,24 @@ pub struct Kept {
     pub b4: u8,
 }
 
+impl Kept {
+    // WZ, the address that was read, low byte first.
+    #[tactic(auto, unfolding(crate::specs::Kept::wz_of))]
+    pub(crate) fn wz(self) -> u16
+        ensures { result ≡ wz_of self }
+    {
+        word(self.b2, self.b1)
+    }
+}
+
 // Nothing read, in an acknowledge of restart n or in none.
+#[tactic(auto, unfolding(crate::specs::Kept::kept_for))]
 pub fn kept_for(ack: Acknowledge, n: u8) -> Kept
     ensures { result ≡ kept_for ack n }
 {
     Kept {
         opcode: 0,
-        ack: ack,
+        ack,
         rst: n,
         b1: 0,
         b2: 0,
@@ -45,11 +57,4 @@ pub fn keep(c: u8, v: u8, k: Kept) -> Kept
         5 => Kept { b4: v, ..k },
         _ => k,
     }
-}
-
-// WZ, the address that was read, low byte first.
-pub(crate) fn wz(k: Kept) -> u16
-    ensures { result ≡ wz_of k }
-{
-    (k.b2 as u16) * 256 + (k.b1 as u16)
 }

@@ -7,5 +7,5 @@ mod high;
 pub mod kept;
 pub mod last;
 mod low;
-mod middle;
+mod operations;
 pub mod registers;

@@ -1,124 +1,77 @@
-// The opcodes 00 to 3F. In each function y and z are the opcode's lower digits, met says whether the condition is met, and k
-// has the bytes read.
+// The opcodes 00 to 3F, by their lower digits y and z.
 ghost use Rattle.std.specs.Prelude.{◌≡◌, ◌/◌, ◌<◌};
-ghost use Rattle.opcodes.specs.Instructions.{is_m, even, transfers, decode0, lxi, dad, inx, dcx, inr_m, inr_r, dcr_m, dcr_r, mvi_m, mvi_r};
-ghost use Rattle.effect.specs.Effect.{counted, dad_pair, accumulated, finish};
+ghost use Rattle.opcodes.specs.Instructions.{even, transfers, decode0, lxi, dad, inx, dcx};
+ghost use Rattle.effect.specs.Last.{after_last};
 
-use crate::kept::{Kept, wz};
-use crate::registers::{Registers, pair, reg, with_flags, with_pair, with_reg, with_result};
-use alu::flags::{Flagged, flags_of};
+use crate::last::Last;
+use crate::registers::Registers;
+use alu::flags::flags_of;
+use alu::sums::{dcr, inr};
 use alu::words::{down, up};
 
-// DAD: the pair p is added to HL; CY only.
-fn dad_pair(p: u8, r: Registers) -> Registers
-    ensures { result ≡ dad_pair p r }
-{
-    let sum = alu::words::dad(pair(2, r), pair(p, r));
-    let flags = alu::flags::with_cy(sum.cy, flags_of(r.f));
-    with_flags(flags, with_pair(2, sum.value, r))
-}
-
-fn lxi_dad(y: u8, met: bool, k: Kept, r: Registers) -> Registers
-    ensures { result ≡ finish (even y (lxi (y / 2)) (dad (y / 2))) met k r }
-{
-    if y % 2 == 0 {
-        with_pair(y / 2, wz(k), r)
-    } else {
-        dad_pair(y / 2, r)
+impl Last {
+    // LXI and DAD, with the pair y / 2.
+    #[tactic(auto, unfolding(crate::specs::Effect::finish, opcodes::specs::Instructions::even))]
+    fn lxi_dad(&self, y: u8) -> Registers
+        ensures { result ≡ after_last (even y (lxi (y / 2)) (dad (y / 2))) self.now }
+    {
+        if y % 2 == 0 {
+            self.regs.with_pair(y / 2, self.kept.wz())
+        } else {
+            self.regs.dad(y / 2)
+        }
     }
-}
 
-fn transfer(y: u8, met: bool, k: Kept, r: Registers) -> Registers
-    requires { y < 8 }
-    ensures { result ≡ finish (transfers y) met k r }
-{
-    match y {
-        0 => r,
-        1 => Registers { a: k.b1, ..r },
-        2 => r,
-        3 => Registers { a: k.b1, ..r },
-        4 => r,
-        5 => Registers {
-            h: k.b4,
-            l: k.b3,
-            ..r
-        },
-        6 => r,
-        _ => Registers { a: k.b3, ..r },
+    // STAX, LDAX, SHLD, LHLD, STA, LDA.
+    #[tactic(auto, unfolding(crate::specs::Effect::finish, opcodes::specs::Instructions::transfers, opcodes::specs::Instructions::nth))]
+    fn transfer(&self, y: u8) -> Registers
+        ensures { result ≡ after_last (transfers y) self.now }
+    {
+        match y {
+            1 | 3 => Registers {
+                a: self.kept.b1,
+                ..self.regs
+            },
+            5 => Registers {
+                h: self.kept.b4,
+                l: self.kept.b3,
+                ..self.regs
+            },
+            7 => Registers {
+                a: self.kept.b3,
+                ..self.regs
+            },
+            _ => self.regs,
+        }
     }
-}
 
-// INX and DCX touch no flag.
-fn inx_dcx(y: u8, met: bool, k: Kept, r: Registers) -> Registers
-    ensures { result ≡ finish (even y (inx (y / 2)) (dcx (y / 2))) met k r }
-{
-    let v = pair(y / 2, r);
-    if y % 2 == 0 {
-        with_pair(y / 2, up(v, 1), r)
-    } else {
-        with_pair(y / 2, down(v, 1), r)
+    // INX and DCX touch no flag.
+    #[tactic(auto, unfolding(crate::specs::Effect::finish, opcodes::specs::Instructions::even))]
+    fn inx_dcx(&self, y: u8) -> Registers
+        ensures { result ≡ after_last (even y (inx (y / 2)) (dcx (y / 2))) self.now }
+    {
+        let v = self.regs.pair(y / 2);
+        let counted = if y % 2 == 0 { up(v, 1) } else { down(v, 1) };
+        self.regs.with_pair(y / 2, counted)
     }
-}
 
-// A byte that was counted up or down goes back into the register y, and its flags are set.
-fn count_in(y: u8, x: Flagged, r: Registers) -> Registers
-    ensures { result ≡ counted y x r }
-{
-    let flags = x.flags;
-    with_flags(flags, with_reg(y, x.value, r))
-}
-
-fn inr(y: u8, met: bool, k: Kept, r: Registers) -> Registers
-    ensures { result ≡ finish (is_m y inr_m (inr_r y)) met k r }
-{
-    let flags = flags_of(r.f);
-    if y == 6 {
-        let x = alu::sums::inr(k.b1, flags.cy);
-        let after = x.flags;
-        with_flags(after, r)
-    } else {
-        count_in(y, alu::sums::inr(reg(y, r), flags.cy), r)
-    }
-}
-
-fn dcr(y: u8, met: bool, k: Kept, r: Registers) -> Registers
-    ensures { result ≡ finish (is_m y dcr_m (dcr_r y)) met k r }
-{
-    let flags = flags_of(r.f);
-    if y == 6 {
-        let x = alu::sums::dcr(k.b1, flags.cy);
-        let after = x.flags;
-        with_flags(after, r)
-    } else {
-        count_in(y, alu::sums::dcr(reg(y, r), flags.cy), r)
-    }
-}
-
-fn mvi(y: u8, met: bool, k: Kept, r: Registers) -> Registers
-    ensures { result ≡ finish (is_m y mvi_m (mvi_r y)) met k r }
-{
-    if y == 6 { r } else { with_reg(y, k.b1, r) }
-}
-
-// RLC, RRC, RAL, RAR, DAA, CMA, STC, CMC.
-fn accumulate(y: u8, r: Registers) -> Registers
-    ensures { result ≡ accumulated y r }
-{
-    with_result(alu::groups::accumulator(y, r.a, flags_of(r.f)), r)
-}
-
-pub(crate) fn low(y: u8, z: u8, met: bool, k: Kept, r: Registers) -> Registers
-    requires { (y < 8) × (z < 8) }
-    ensures { result ≡ finish (decode0 y z) met k r }
-{
-    match z {
-        0 => r,
-        1 => lxi_dad(y, met, k, r),
-        2 => transfer(y, met, k, r),
-        3 => inx_dcx(y, met, k, r),
-        4 => inr(y, met, k, r),
-        5 => dcr(y, met, k, r),
-        6 => mvi(y, met, k, r),
-        _ => accumulate(y, r),
+    // INR, DCR and MVI of M set no register: its byte went out in a cycle. (The digits are handed on, as `decode0` and `decode3`
+    // take them: so `y < 8` here and in `high`.)
+    #[tactic(auto, using(crate::proofs::Operands::low), unfolding(opcodes::specs::Instructions::decode0, opcodes::specs::Instructions::nth))]
+    pub(crate) fn low(&self, y: u8, z: u8) -> Registers
+        requires { (y < 8) × (z < 8) }
+        ensures { result ≡ after_last (decode0 y z) self.now }
+    {
+        let cy = flags_of(self.regs.f).cy;
+        match z {
+            0 => self.regs,
+            1 => self.lxi_dad(y),
+            2 => self.transfer(y),
+            3 => self.inx_dcx(y),
+            4 => self.regs.counted(y, inr(self.operand(y), cy)),
+            5 => self.regs.counted(y, dcr(self.operand(y), cy)),
+            6 => self.regs.with_reg(y, self.kept.b1),
+            _ => self.regs.accumulated(y),
+        }
     }
 }

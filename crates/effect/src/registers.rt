@@ -1,12 +1,13 @@
 // The registers, by name and by the numbers that opcodes use.
 ghost use Rattle.std.specs.Prelude.{◌≡◌};
-ghost use Rattle.effect.specs.Registers.{reg_of, with_reg, with_result, with_flags};
+ghost use Rattle.effect.specs.Registers.{word, reg_of, with_reg, with_result, with_flags};
 ghost use Rattle.effect.specs.Pairs.{pair_of, with_pair, pop_pair, pair_high_of, pair_low_of};
 
-use alu::flags::{Flagged, Flags};
+use alu::flags::{Flagged, Flags, flag_byte, flags_of};
+use alu::words::up;
 
 // f is the flag byte; inte says whether interrupts are enabled.
-#[derive(Clone, Copy)]
+#[derive(Clone, Copy, Debug, PartialEq, Eq)]
 pub struct Registers {
     pub a: u8,
     pub f: u8,
@@ -21,146 +22,149 @@ pub struct Registers {
     pub inte: bool,
 }
 
-// The register n, of B C D E H L M A; 0 for M.
-pub(crate) fn reg(n: u8, r: Registers) -> u8
-    ensures { result ≡ reg_of n r }
+// A 16-bit number from its bytes. u16::from_be_bytes was too slow: the compiler then kept pairs of registers packed, which cost
+// some 12 instructions a state.
+pub(crate) fn word(high: u8, low: u8) -> u16
+    ensures { result ≡ word high low }
 {
-    let all = [r.b, r.c, r.d, r.e, r.h, r.l, 0, r.a];
-    let i = (n % 8) as usize;
-    all[i]
+    u16::from(high) * 256 + u16::from(low)
 }
 
-// The registers with v in the register n; for M they stay.
-pub(crate) fn with_reg(n: u8, v: u8, r: Registers) -> Registers
-    ensures { result ≡ with_reg n v r }
-{
-    let mut all = [r.b, r.c, r.d, r.e, r.h, r.l, 0, r.a];
-    let i = (n % 8) as usize;
-    all[i] = v;
-    Registers {
-        a: all[7],
-        b: all[0],
-        c: all[1],
-        d: all[2],
-        e: all[3],
-        h: all[4],
-        l: all[5],
-        ..r
+impl Registers {
+    // The register n, of B C D E H L M A; 0 for M. (Here and below a list and a number of it, as the definitions have it: the
+    // numbers are those in opcodes. Where one function gave the eight to `reg` and `with_reg`, a state took 7 instructions more.)
+    #[tactic(auto, unfolding(crate::specs::Registers::reg_of))]
+    pub(crate) fn reg(self, n: u8) -> u8
+        ensures { result ≡ reg_of n self }
+    {
+        let all = [self.b, self.c, self.d, self.e, self.h, self.l, 0, self.a];
+        all[usize::from(n % 8)]
     }
-}
 
-// The registers with a result in A, and its flags.
-pub(crate) fn with_result(x: Flagged, r: Registers) -> Registers
-    ensures { result ≡ with_result x r }
-{
-    let flags = x.flags;
-    let f = alu::flags::flag_byte(flags);
-    Registers {
-        a: x.value,
-        f: f,
-        ..r
+    // The registers with v in the register n; for M they stay.
+    #[tactic(auto, unfolding(crate::specs::Registers::with_reg))]
+    pub(crate) fn with_reg(self, n: u8, v: u8) -> Registers
+        ensures { result ≡ with_reg n v self }
+    {
+        let mut all = [self.b, self.c, self.d, self.e, self.h, self.l, 0, self.a];
+        all[usize::from(n % 8)] = v;
+        let [b, c, d, e, h, l, _, a] = all;
+        Registers {
+            a,
+            b,
+            c,
+            d,
+            e,
+            h,
+            l,
+            ..self
+        }
     }
-}
 
-// The registers with other flags.
-pub(crate) fn with_flags(flags: Flags, r: Registers) -> Registers
-    ensures { result ≡ with_flags flags r }
-{
-    let f = alu::flags::flag_byte(flags);
-    Registers { f: f, ..r }
-}
-
-// The pair p, of BC DE HL SP.
-pub(crate) fn pair(p: u8, r: Registers) -> u16
-    ensures { result ≡ pair_of p r }
-{
-    let all = [
-        (r.b as u16) * 256 + (r.c as u16),
-        (r.d as u16) * 256 + (r.e as u16),
-        (r.h as u16) * 256 + (r.l as u16),
-        r.sp,
-    ];
-    let i = (p % 4) as usize;
-    all[i]
-}
-
-// The registers with v in the pair p.
-#[tactic(auto, unfolding(crate::specs::Pairs::with_pair))]
-pub(crate) fn with_pair(p: u8, v: u16, r: Registers) -> Registers
-    ensures { result ≡ with_pair p v r }
-{
-    let high = (v / 256) as u8;
-    let low = (v % 256) as u8;
-    match p {
-        0 => Registers {
-            b: high,
-            c: low,
-            ..r
-        },
-        1 => Registers {
-            d: high,
-            e: low,
-            ..r
-        },
-        2 => Registers {
-            h: high,
-            l: low,
-            ..r
-        },
-        _ => Registers { sp: v, ..r },
+    // The registers with other flags.
+    #[tactic(auto, unfolding(crate::specs::Registers::with_flags))]
+    pub(crate) fn with_flags(self, flags: Flags) -> Registers
+        ensures { result ≡ with_flags flags self }
+    {
+        Registers {
+            f: flag_byte(flags),
+            ..self
+        }
     }
-}
 
-// POP: the registers with two bytes of the stack in the pair p, of BC DE HL PSW, and SP past them.
-#[tactic(auto, unfolding(crate::specs::Pairs::pop_pair))]
-pub(crate) fn pop_pair(p: u8, high: u8, low: u8, r: Registers) -> Registers
-    ensures { result ≡ pop_pair p high low r }
-{
-    let sp = alu::words::up(r.sp, 2);
-    match p {
-        0 => Registers {
-            b: high,
-            c: low,
-            sp: sp,
-            ..r
-        },
-        1 => Registers {
-            d: high,
-            e: low,
-            sp: sp,
-            ..r
-        },
-        2 => Registers {
-            h: high,
-            l: low,
-            sp: sp,
-            ..r
-        },
-        _ => {
-            let f = alu::flags::flag_byte(alu::flags::flags_of(low));
+    // The registers with a result in A, and its flags.
+    #[tactic(auto, unfolding(crate::specs::Registers::with_result, crate::specs::Registers::with_flags))]
+    pub(crate) fn with_result(self, x: Flagged) -> Registers
+        ensures { result ≡ with_result x self }
+    {
+        Registers {
+            a: x.value,
+            ..self.with_flags(x.flags)
+        }
+    }
+
+    // HL.
+    pub(crate) fn hl(self) -> u16
+        ensures { result ≡ word self.h self.l }
+    {
+        word(self.h, self.l)
+    }
+
+    // The pair p, of BC DE HL SP.
+    #[tactic(auto, unfolding(crate::specs::Pairs::pair_of))]
+    pub(crate) fn pair(self, p: u8) -> u16
+        ensures { result ≡ pair_of p self }
+    {
+        let all = [
+            word(self.b, self.c),
+            word(self.d, self.e),
+            self.hl(),
+            self.sp,
+        ];
+        all[usize::from(p % 4)]
+    }
+
+    // The registers with v in the pair p.
+    #[tactic(auto, unfolding(crate::specs::Pairs::with_pair))]
+    pub(crate) fn with_pair(self, p: u8, v: u16) -> Registers
+        ensures { result ≡ with_pair p v self }
+    {
+        let [high, low] = v.to_be_bytes();
+        match p {
+            0 => Registers {
+                b: high,
+                c: low,
+                ..self
+            },
+            1 => Registers {
+                d: high,
+                e: low,
+                ..self
+            },
+            2 => Registers {
+                h: high,
+                l: low,
+                ..self
+            },
+            _ => Registers { sp: v, ..self },
+        }
+    }
+
+    // POP: the registers with two bytes of the stack in the pair p, of BC DE HL PSW, and SP past them.
+    #[tactic(auto, unfolding(crate::specs::Pairs::pop_pair, crate::specs::Pairs::with_pair))]
+    pub(crate) fn pop_pair(self, p: u8, high: u8, low: u8) -> Registers
+        ensures { result ≡ pop_pair p high low self }
+    {
+        let sp = up(self.sp, 2);
+        if p < 3 {
+            Registers {
+                sp,
+                ..self.with_pair(p, word(high, low))
+            }
+        } else {
             Registers {
                 a: high,
-                f: f,
-                sp: sp,
-                ..r
+                f: flag_byte(flags_of(low)),
+                sp,
+                ..self
             }
         }
     }
-}
 
-// The bytes of the pair p that PUSH writes, of BC DE HL PSW.
-pub(crate) fn pair_high(p: u8, r: Registers) -> u8
-    ensures { result ≡ pair_high_of p r }
-{
-    let all = [r.b, r.d, r.h, r.a];
-    let i = (p % 4) as usize;
-    all[i]
-}
+    // The bytes of the pair p that PUSH writes, of BC DE HL PSW.
+    #[tactic(auto, unfolding(crate::specs::Pairs::pair_high_of))]
+    pub(crate) fn pair_high(self, p: u8) -> u8
+        ensures { result ≡ pair_high_of p self }
+    {
+        let all = [self.b, self.d, self.h, self.a];
+        all[usize::from(p % 4)]
+    }
 
-pub(crate) fn pair_low(p: u8, r: Registers) -> u8
-    ensures { result ≡ pair_low_of p r }
-{
-    let all = [r.c, r.e, r.l, r.f];
-    let i = (p % 4) as usize;
-    all[i]
+    #[tactic(auto, unfolding(crate::specs::Pairs::pair_low_of))]
+    pub(crate) fn pair_low(self, p: u8) -> u8
+        ensures { result ≡ pair_low_of p self }
+    {
+        let all = [self.c, self.e, self.l, self.f];
+        all[usize::from(p % 4)]
+    }
 }

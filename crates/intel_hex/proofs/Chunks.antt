@@ -1,62 +1,48 @@
--- A range of memory record by record: 16 bytes and what is left of it, or the last bytes.
+-- A range record by record: the records so far and one more, of the next 16 bytes or the last fewer.
 -- Assumes nothing.
-use Prim.Native.Nat.{ℕ, suc, ◌+◌, ◌-◌, ◌/◌, ◌≤◌, ◌<◌, min}
-use mathlib.Core.Path.{◌≡◌, ap, ◌∙◌}
-use mathlib.Core.List.{List, [], ◌++◌}
-use mathlib.Core.Logic.{⊎_elim}
+use Prim.Native.Nat.{ℕ, zero, suc, ◌+◌, ◌*◌, min}
+use mathlib.Core.Path.{◌≡◌, refl, sym, ap, ◌∙◌}
+use mathlib.Core.List.{List, [], ◌∷◌, ◌++◌, append_assoc, append-nil}
 use native.Mathlib.Omega.{arith}
-use lib.ListN.{length, take, drop, length-take, length-drop}
-use lib.Seq.{length-take-le, take_all, take-take, drop-drop, take-add, drop_at}
-use Rattle.laws.proofs.Order.{lt_or_le}
-use Rattle.text.specs.Text.{Text, written_of}
+use native.Mathlib.Numerals.{add-one}
+use lib.ListN.{length, take, drop}
+use lib.Seq.{drop-drop}
+use Rattle.text.specs.Writer.{Adds}
+use Rattle.text.specs.declared.Text.{Text}
+use Rattle.text.proofs.Writer.{writes_none, writes_both}
 use Rattle.intel_hex.specs.Record.{record_of}
-use Rattle.intel_hex.specs.Write.{records_for, records_of, range_of}
-use Rattle.text.proofs.Written.{written_none, written_both}
+use Rattle.intel_hex.specs.Write.{records_of}
 
--- the first n elements without the first m
-rest : (m n : ℕ) (l : List ℕ) → m ≤ n → n ≤ length l → drop m (take n l) ≡ take (n - m) (drop m l)
-rest m n l h k =
-    let whole : n ≡ m + (n - m) = omega arith in
-    ap (λ j. drop m (take j l)) whole ∙ rw take-add (drop_at (take m l) _ m (length-take-le m l (omega arith)))
+-- the first n elements or all, and the rest
+cut : (n : ℕ) (x t : List ℕ) → length x ≡ min n (length (x ++ t)) → (take n (x ++ t) ≡ x) × (drop n (x ++ t) ≡ t)
+cut zero [] t h = (refl, refl)
+cut zero (b ∷ x) t h = absurd (let no : ⊥ = omega (arith, h) in no)
+cut (suc n) [] [] h = (refl, refl)
+cut (suc n) [] (b ∷ t) h = absurd (let no : ⊥ = omega (arith, h) in no)
+cut (suc n) (b ∷ x) t h = let c = cut n x t (omega (arith, h)) in (ap (λ l. b ∷ l) c.0, c.1)
 
--- n bytes of memory x from a on
-module _ (x : List ℕ) (a n : ℕ) where
-  -- a record of 16 bytes, and those of the bytes after them
-  full : 16 ≤ n → a + n ≤ length x
-      → records_of (records_for n) a (range_of x a n)
-      ≡ record_of 0 a (take 16 (drop a x)) ++ records_of (records_for (n - 16)) (a + 16) (range_of x (a + 16) (n - 16))
-  unfolding records_of
-  full h k =
-      let one_more : (n + 15) / 16 ≡ suc ((n - 16 + 15) / 16) = omega arith in
-      let long : n ≤ length (drop a x) = rw length-drop (omega arith) in
-      rw (one_more, take-take 16 n (drop a x) h, rest 16 n (drop a x) h long, drop-drop)
+-- no record
+pub chunks_none : (a : ℕ) (d : List ℕ) (i : ℕ) (t : Text) → i ≡ 0 → Adds (records_of i a d) t t
+unfolding records_of
+chunks_none a d i t e = rw e (writes_none t)
 
-  -- fewer bytes are one record
-  last : 0 < n → n < 16 → records_of (records_for n) a (range_of x a n) ≡ record_of 0 a (take n (drop a x)) ++ []
-  unfolding records_of
-  last h k =
-      let only : (n + 15) / 16 ≡ 1 = omega arith in
-      rw (only, take_all 16 (take n (drop a x)) (rw length-take (omega arith)))
+-- a record more
+records_more : (k a : ℕ) (d : List ℕ) → records_of (suc k) a d ≡ records_of k a d ++ record_of 0 (a + 16 * k) (take 16 (drop (16 * k) d))
+unfolding records_of
+records_more zero a d = let here : a + 16 * 0 ≡ a = omega arith in rw (here, append-nil)
+records_more (suc k) a d =
+    let here : a + 16 + 16 * k ≡ a + 16 * suc k = omega arith in
+    let there : 16 + 16 * k ≡ 16 * suc k = omega arith in
+    rw (append_assoc, records_more k (a + 16) (drop 16 d), here, drop-drop, there)
 
-  -- so a turn, which writes at most 16 of them, leaves the whole text as it was
-  pub chunk_turn : (size : ℕ) (t u : Text) → 0 < n → a + n ≤ length x → size ≡ min n 16
-      → u ≡ written_of (record_of 0 a (take (a + size - a) (drop a x))) t
-      → written_of (records_of (records_for (n - size)) (a + size) (range_of x (a + size) (n - size))) u
-      ≡ written_of (records_of (records_for n) a (range_of x a n)) t
-  unfolding records_of
-  chunk_turn size t u h k e f =
-      let some : a + size - a ≡ size = omega arith in
-      ⊎_elim
-      (λ (l : n < 16).
-      let all : size ≡ n = omega arith in
-      let none : n - n ≡ 0 = omega arith in
-      rw (f, some, all, none, last h l, written_both, written_none))
-      (λ (l : 16 ≤ n).
-      let all : size ≡ 16 = omega arith in
-      rw (f, some, all, full l k, written_both))
-      (lt_or_le n 16)
+-- what the parts x of a range d say, each with what is left before and after it
+module _ (a : ℕ) (d : List ℕ) (i : ℕ) (s x t : List ℕ) (at : s ≡ drop (16 * i) d) (split : s ≡ x ++ t) (size : length x ≡ min 16 (length s)) where
+  pub chunk_more : {u v w : Text} → Adds (records_of i a d) u v → Adds (record_of 0 (a + 16 * i) x) v w → Adds (records_of (i + 1) a d) u w
+  chunk_more p q =
+      let part = (cut 16 x t (rw split at size)).0 in
+      rw (add-one i, records_more, ← at, split, part) (writes_both p q)
 
-  -- and where none is left, the text is whole
-  pub chunk_end : (t : Text) → n ≤ 0 → t ≡ written_of (records_of (records_for n) a (range_of x a n)) t
-  unfolding records_of
-  chunk_end t h = let none : n ≡ 0 = omega arith in rw (none, written_none)
+  pub chunk_next : t ≡ drop (16 * (i + 1)) d
+  chunk_next =
+      let next : 16 * i + 16 ≡ 16 * (i + 1) = omega arith in
+      sym (cut 16 x t (rw split at size)).1 ∙ rw (← split, at, drop-drop, next)

@@ -8,10 +8,11 @@ use native.Mathlib.Omega.{arith}
 use lib.ListN.{length, length-append}
 use lib.Seq.{take-append_seam}
 use borrow.Author.Tests.{eq-eqb, le-leb}
+use Rattle.std.specs.Prelude.{Ok}
 use Rattle.text.specs.Numbers.{digit_of, byte_of}
 use Rattle.intel_hex.specs.declared.record.Line.TheVariants.{Data, End}
 use Rattle.intel_hex.specs.Lines.{bare_of, ending_of}
-use Rattle.intel_hex.specs.Digits.{is_hex, digit_value, all_hex, two_digits, byte_at, bytes_in, digits_of, byte_sum}
+use Rattle.intel_hex.specs.Digits.{is_hex, digit_value, two_digits, byte_at, bytes_in, digits_of, byte_sum}
 use Rattle.intel_hex.specs.Record.{record_count, record_address, record_type, record_data, record_sound, line_formed, line_is, body_of, checksum_of, record_of}
 use Rattle.text.specs.Bytes.{Bytes}
 use Rattle.text.proofs.Bytes.{bytes_drop}
@@ -25,8 +26,8 @@ unfolding byte_sum
 sums s = rw sum_both (omega arith)
 
 -- the end record, computed
-pub end_line : line_is (bare_of (record_of 1 0 [])) ≡ End
-unfolding line_is line_formed record_sound bare_of ending_of record_of digits_of byte_of digit_of byte_at two_digits digit_value is_hex all_hex bytes_in byte_sum
+pub end_line : line_is (bare_of (record_of 1 0 [])) ≡ Ok End
+unfolding line_is line_formed record_sound bare_of ending_of record_of digits_of byte_of digit_of byte_at two_digits digit_value is_hex bytes_in byte_sum
 end_line = refl
 
 module _ (a : ℕ) (d : List ℕ) (place : a < 65536) (few : length d < 256) (bytes : Bytes d) where
@@ -60,6 +61,6 @@ module _ (a : ℕ) (d : List ℕ) (place : a < 65536) (few : length d < 256) (by
   unfolding line_formed record_sound
   data_formed = rw (data_length, data_count, data_type, record_bare, eq-eqb _ _ refl, digits_hex _ all, digits_back _ all, sums)
 
-  pub data_line : a + length d ≤ 65536 → line_is (bare_of (record_of 0 a d)) ≡ Data
+  pub data_line : a + length d ≤ 65536 → line_is (bare_of (record_of 0 a d)) ≡ Ok Data
   unfolding line_is
   data_line fits = rw (data_formed, data_type, data_address, data_count, le-leb _ _ fits)

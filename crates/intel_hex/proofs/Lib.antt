@@ -3,8 +3,8 @@ pub mod Pieces
 pub mod Scan
 pub mod Lined
 pub mod Formed
+pub mod Landed
 pub mod Judged
-pub mod Answered
 pub mod Turns
 pub mod Made
 pub mod Chunks

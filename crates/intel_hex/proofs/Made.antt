@@ -1,22 +1,20 @@
 -- A record put together from its pieces: the colon, the digits of the four bytes before the data, those of the data and of the
 -- last byte, and the line's ending.
 -- Assumes nothing.
-use Prim.Native.Nat.{ℕ, ◌+◌, ◌-◌, ◌/◌, ◌%◌}
-use mathlib.Core.Path.{◌≡◌, refl, ap}
-use mathlib.Core.List.{List, [], ◌∷◌, ◌++◌}
+use Prim.Native.Nat.{ℕ, ◌+◌, ◌/◌, ◌%◌, ◌<◌}
+use mathlib.Core.Path.{◌≡◌}
+use mathlib.Core.List.{List, [], ◌∷◌}
 use native.Mathlib.Omega.{arith}
 use lib.ListN.{length}
-use Rattle.text.specs.Text.{feed, Text, put_of, written_of}
+use Rattle.text.specs.Text.{feed}
+use Rattle.text.specs.Writer.{Adds}
+use Rattle.text.specs.declared.Text.{Text}
 use Rattle.text.specs.Numbers.{byte_of}
+use Rattle.text.proofs.Writer.{writes_both, writes_more}
 use Rattle.intel_hex.specs.Lines.{carriage}
 use Rattle.intel_hex.specs.Digits.{digits_of, byte_sum}
 use Rattle.intel_hex.specs.Record.{colon, body_of, checksum_of, record_of}
-use Rattle.text.proofs.Written.{both, more}
-use Rattle.intel_hex.proofs.Pieces.{digits_both, sum_both}
-
-digits_one : (b : ℕ) → digits_of (b ∷ []) ≡ byte_of b
-unfolding digits_of byte_of
-digits_one b = refl
+use Rattle.intel_hex.proofs.Pieces.{digits_both, digits_one, sum_both}
 
 -- of type t, with the data d for address a
 module _ (t a : ℕ) (d : List ℕ) where
@@ -25,16 +23,13 @@ module _ (t a : ℕ) (d : List ℕ) where
   head_of = length d ∷ a / 256 ∷ a % 256 ∷ t ∷ []
 
   -- the last byte, by the sums of both parts
-  check_made : (h b : ℕ) → h ≡ byte_sum head_of % 256 → b ≡ byte_sum d % 256 → checksum_of (body_of t a d) ≡ (256 - (h + b) % 256) % 256
-  check_made h b p q =
-      let sum : byte_sum (head_of ++ d) % 256 ≡ (h + b) % 256 = omega (arith, sum_both head_of d) in
-      ap (λ n. (256 - n) % 256) sum
+  check_made : (h b c : ℕ) → h ≡ byte_sum head_of % 256 → b ≡ byte_sum d % 256 → c < 256 → (c + (h + b) % 256) % 256 ≡ 0 → c ≡ checksum_of (body_of t a d)
+  check_made h b c p q k z = omega (arith, sum_both head_of d, p, q, k, z)
 
-  pub record_made : (h b : ℕ) (s : Text) {u v w x y : Text} → h ≡ byte_sum head_of % 256 → b ≡ byte_sum d % 256 → u ≡ put_of colon s
-      → v ≡ written_of (digits_of head_of) u → w ≡ written_of (digits_of d) v
-      → x ≡ written_of (byte_of ((256 - (h + b) % 256) % 256)) w → y ≡ written_of (carriage ∷ feed ∷ []) x
-      → y ≡ written_of (record_of t a d) s
+  pub record_made : (h b c : ℕ) {s u v w x y : Text} → h ≡ byte_sum head_of % 256 → b ≡ byte_sum d % 256 → c < 256 → (c + (h + b) % 256) % 256 ≡ 0
+      → Adds (colon ∷ []) s u → Adds (digits_of head_of) u v → Adds (digits_of d) v w → Adds (byte_of c) w x → Adds (carriage ∷ feed ∷ []) x y
+      → Adds (record_of t a d) s y
   unfolding record_of
-  record_made h b s p q e f g k l =
-      rw (check_made h b p q, digits_both head_of d, digits_one)
-      (more _ _ _ e (both _ _ _ (both _ _ _ (both _ _ _ f g) k) l))
+  record_made h b c p q k z e f g i j =
+      rw (← check_made h b c p q k z, digits_both head_of d, digits_one)
+      (writes_more colon e (writes_both (writes_both (writes_both f g) i) j))

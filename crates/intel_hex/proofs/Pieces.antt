@@ -13,6 +13,10 @@ unfolding digits_of byte_of
 digits_both [] y = refl
 digits_both (b ∷ x) y = rw (digits_both x y)
 
+pub digits_one : (b : ℕ) → digits_of (b ∷ []) ≡ byte_of b
+unfolding digits_of byte_of
+digits_one b = refl
+
 pub digits_length : (x : List ℕ) → length (digits_of x) ≡ 2 * length x
 unfolding digits_of byte_of
 digits_length [] = refl

@@ -1,17 +1,17 @@
--- Digits, character by character: the turns and the ends of the loops that read them.
+-- Digits, pair by pair: what the loops that read them go on.
 -- Assumes nothing.
-use Prim.Native.Nat.{ℕ, zero, suc, ◌+◌, ◌-◌, ◌*◌, ◌/◌, ◌%◌, ◌≤◌, ◌<◌}
+use Prim.Native.Nat.{ℕ, zero, suc, ◌+◌, ◌*◌, ◌/◌, ◌%◌, ◌<◌}
 use mathlib.Core.Path.{◌≡◌, refl}
-use mathlib.Core.Bool.{Bool, true, false, ◌&&◌, ◌||◌, not}
-use mathlib.Core.List.{List, [], ◌∷◌}
+use mathlib.Core.Bool.{Bool, true, ◌&&◌, ◌||◌, not}
+use mathlib.Core.List.{List, [], ◌∷◌, ◌++◌}
 use native.Mathlib.Omega.{arith}
 use native.Mathlib.Numerals.{add-one}
 use lib.Dec.{T, eqb, ltb, eqb→eq, ltb→lt}
-use lib.ListN.{length, get_or, take, drop, set, drop_of_length-le, length-drop}
-use lib.Seq.{drop-cons, sets}
+use lib.ListN.{length, get_or, take, drop, set}
+use lib.Seq.{sets}
 use Rattle.laws.proofs.Every.{and_left, and_right, below}
 use Rattle.laws.proofs.Tests.{true→T, T→true}
-use Rattle.intel_hex.specs.Digits.{is_hex, digit_value, all_hex, PairAt, byte_at, bytes_in, byte_sum}
+use Rattle.intel_hex.specs.Digits.{is_hex, digit_value, all_hex, PairAt, byte_at, bytes_in}
 
 -- what a hex digit counts, computed for every byte
 pub value_bits : (c : ℕ) → c < 256 → is_hex c ≡ true → (c % 16 + 9 * (c / 64) ≡ digit_value c) × (c % 16 + 9 * (c / 64) < 16)
@@ -24,85 +24,48 @@ value_bits c h e =
 
 -- where all are hex digits, each is
 pub hex_at : (s : List ℕ) (i : ℕ) → all_hex s ≡ true → i < length s → is_hex (get_or s i 0) ≡ true
-unfolding all_hex
 hex_at [] i e h = absurd (let no : ⊥ = omega arith in no)
 hex_at (c ∷ s) zero e h = T→true (is_hex c) (and_left (is_hex c) (all_hex s) (true→T _ e))
 hex_at (c ∷ s) (suc i) e h = hex_at s i (T→true (all_hex s) (and_right (is_hex c) (all_hex s) (true→T _ e))) (omega arith)
 
--- so any two are a pair, in digits and after the colon of a line
-pub pair_in : (s : List ℕ) (i : ℕ) → all_hex s ≡ true → i + 1 < length s → PairAt s i
-pair_in s i e h = (h, hex_at s i e (omega arith), hex_at s (i + 1) e h)
-
+-- so any two after the colon of a line are a pair
 pub pair_after : (l : List ℕ) (i : ℕ) → all_hex (drop 1 l) ≡ true → i + 2 < length l → PairAt l (i + 1)
 pair_after [] i e h = absurd (let no : ⊥ = omega arith in no)
 pair_after (c ∷ l) i e h =
     let next : i + 1 + 1 ≡ suc (i + 1) = omega arith in
     (omega arith, rw (add-one i) (hex_at l i e (omega arith)), rw next (hex_at l (i + 1) e (omega arith)))
 
+-- and so each part of them
+pub hex_front : (n : ℕ) (s : List ℕ) → all_hex s ≡ true → all_hex (take n s) ≡ true
+hex_front zero s e = refl
+hex_front (suc n) [] e = refl
+hex_front (suc n) (c ∷ s) e =
+    let both = true→T (all_hex (c ∷ s)) e in
+    rw (T→true (is_hex c) (and_left (is_hex c) (all_hex s) both)) (hex_front n s (T→true (all_hex s) (and_right (is_hex c) (all_hex s) both)))
+
 pub hex_rest : (s : List ℕ) (n : ℕ) → all_hex s ≡ true → all_hex (drop n s) ≡ true
-unfolding all_hex
 hex_rest s zero e = e
 hex_rest [] (suc n) e = e
 hex_rest (c ∷ s) (suc n) e = hex_rest s n (T→true (all_hex s) (and_right (is_hex c) (all_hex s) (true→T _ e)))
 
-and_all : (a b c : Bool) → (a && b && c) ≡ (a && (b && c))
-and_all true b c = refl
-and_all false b c = refl
+pub hex_left : (s x t : List ℕ) → s ≡ x ++ t → all_hex s ≡ true → all_hex t ≡ true
+hex_left s [] t e h = rw e at h
+hex_left s (c ∷ x) t e h = hex_left (x ++ t) x t refl (T→true (all_hex (x ++ t)) (and_right (is_hex c) (all_hex (x ++ t)) (true→T _ (rw e at h))))
 
-and_true : (a : Bool) → a ≡ (a && true)
-and_true true = refl
-and_true false = refl
+-- two digits are a byte; fewer are none
+pub bytes_pair : (s x t : List ℕ) → s ≡ x ++ t → length x ≡ 2 → bytes_in s ≡ byte_at x 0 ∷ bytes_in t
+unfolding bytes_in byte_at
+bytes_pair s [] t e h = cc
+bytes_pair s (c ∷ []) t e h = cc
+bytes_pair s (c ∷ b ∷ []) t e h = rw e
+bytes_pair s (c ∷ b ∷ a ∷ x) t e h = absurd (let no : ⊥ = omega (arith, h) in no)
 
-few : (s : List ℕ) → length s < 2 → bytes_in s ≡ []
+pub bytes_none : (s : List ℕ) → length s < 2 → bytes_in s ≡ []
 unfolding bytes_in
-few [] h = refl
-few (c ∷ []) h = refl
-few (c ∷ b ∷ s) h = absurd (let no : ⊥ = omega arith in no)
+bytes_none [] h = refl
+bytes_none (c ∷ []) h = refl
+bytes_none (c ∷ b ∷ s) h = absurd (let no : ⊥ = omega arith in no)
 
-module _ (s : List ℕ) (i : ℕ) where
-  -- all characters so far and all that are left are hex digits: one more, and the end
-  pub hex_turn : (a : Bool) → i < length s → (a && is_hex (get_or s i 0) && all_hex (drop (i + 1) s)) ≡ (a && all_hex (drop i s))
-  unfolding all_hex
-  hex_turn a h = rw (drop-cons s i 0 h, add-one i) (and_all a _ _)
-
-  pub hex_end : (a : Bool) → length s ≤ i → a ≡ (a && all_hex (drop i s))
-  unfolding all_hex
-  hex_end a h = rw drop_of_length-le (and_true a)
-
-  -- two digits are a byte; fewer are none
-  pub bytes_more : i + 1 < length s → bytes_in (drop i s) ≡ byte_at s i ∷ bytes_in (drop (i + 2) s)
-  unfolding bytes_in byte_at
-  bytes_more h =
-      let two : i + 2 ≡ suc (suc i) = omega arith in
-      rw (drop-cons s i 0 (omega arith), drop-cons s (suc i) 0 (omega arith), add-one i, two)
-
-  pub bytes_none : length s < i + 2 → bytes_in (drop i s) ≡ []
-  bytes_none h = few (drop i s) (rw length-drop (omega arith))
-
--- the sum of bytes: one more, modulo 256, and the end
-module _ (s : List ℕ) (i t : ℕ) where
-  pub sum_turn : i + 1 < length s → ((t + byte_at s i) % 256 + byte_sum (bytes_in (drop (i + 2) s))) % 256 ≡ (t + byte_sum (bytes_in (drop i s))) % 256
-  unfolding byte_sum
-  sum_turn h = rw (bytes_more s i h) (omega arith)
-
-  pub sum_end : length s < i + 2 → t < 256 → t ≡ (t + byte_sum (bytes_in (drop i s))) % 256
-  unfolding byte_sum
-  sum_end h l = rw (bytes_none s i h) (omega arith)
-
--- the bytes put from the address a on: the byte i, and the end
-module _ (s x : List ℕ) (a i n : ℕ) where
-  pub put_turn : i < n → 2 * n ≤ length s
-      → sets (set x (a + i) (byte_at s (2 * i))) (a + (i + 1)) (take (n - (i + 1)) (bytes_in (drop (2 * (i + 1)) s)))
-      ≡ sets x (a + i) (take (n - i) (bytes_in (drop (2 * i) s)))
-  put_turn h l =
-      let left : n - i ≡ suc (n - (i + 1)) = omega arith in
-      let next : 2 * i + 2 ≡ 2 * (i + 1) = omega arith in
-      let place : a + (i + 1) ≡ suc (a + i) = omega arith in
-      rw (left, bytes_more s (2 * i) (omega arith), next, place)
-
-  pub put_end : n ≤ i → sets x (a + i) (take (n - i) (bytes_in (drop (2 * i) s))) ≡ x
-  put_end h = let none : n - i ≡ 0 = omega arith in rw none
-
--- the bytes put, from the start on
-pub put_start : (s x : List ℕ) (a n : ℕ) → sets x (a + 0) (take (n - 0) (bytes_in (drop (2 * 0) s))) ≡ sets x a (take n (bytes_in s))
-put_start s x a n = let place : a + 0 ≡ a = omega arith in let all : n - 0 ≡ n = omega arith in rw (place, all)
+-- a byte put, and the others after it
+pub sets_more : (l : List ℕ) (i j b : ℕ) (x : List ℕ) → j ≡ i + 1 → sets (set l i b) j x ≡ sets l i (b ∷ x)
+sets_more l i j b x e = rw (e, add-one i)

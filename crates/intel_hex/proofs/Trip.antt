@@ -9,11 +9,10 @@ use lib.Dec.{leb}
 use lib.ListN.{length, take, drop, take-append-drop, drop_of_length-le}
 use lib.Seq.{sets-eq, take_at, take_all, take-add}
 use borrow.Author.Tests.{eqb-true, leb-true}
+use Rattle.std.specs.Prelude.{Ok, Err}
 use Rattle.laws.specs.Choice.{pick}
 use Rattle.intel_hex.specs.declared.answer.Refusal.TheVariants.{MemorySize, PastEnd, OutputSize}
-use Rattle.intel_hex.specs.declared.answer.Reading.{Reading}
-use Rattle.intel_hex.specs.declared.answer.Reading.TheVariants.{Read}
-use Rattle.intel_hex.specs.declared.answer.Writing.TheVariants.{Written, Refused}
+use Rattle.intel_hex.specs.Answer.{Reading}
 use Rattle.intel_hex.specs.Lines.{text_lines}
 use Rattle.intel_hex.specs.Read.{judged_from, landed_from, reading_of}
 use Rattle.intel_hex.specs.Write.{records_for, hex_of, range_of, length_for, writing_of}
@@ -43,7 +42,7 @@ module _ (x : List ℕ) (start n : ℕ) (size : length x ≡ 65536) (bytes : Byt
   only_records = only _ start (range_of x start n) held
 
   -- its text is read, whatever follows: "What follows the end record is ignored"
-  range_judged : (rest : List ℕ) → judged_from 1 (text_lines (hex_of start (range_of x start n) ++ rest)) ≡ Read
+  range_judged : (rest : List ℕ) → judged_from 1 (text_lines (hex_of start (range_of x start n) ++ rest)) ≡ Ok tt
   unfolding hex_of
   range_judged rest = rw append_assoc (judged 1 _ start (range_of x start n) rest held)
 
@@ -65,14 +64,14 @@ module _ (x : List ℕ) (start n : ℕ) (size : length x ≡ 65536) (bytes : Byt
 
 -- an answer that is no refusal comes of tests that all pass
 passed : (p q s : Bool) (j k : ℕ)
-    → Written k ≡ pick p (pick q (pick s (Written j) (Refused OutputSize)) (Refused PastEnd)) (Refused MemorySize)
+    → Ok k ≡ pick p (pick q (pick s (Ok j) (Err OutputSize)) (Err PastEnd)) (Err MemorySize)
     → (p ≡ true) × (q ≡ true) × (k ≡ j)
 passed true true true j k e = (refl, refl, cc)
 passed true true false j k e = (refl, refl, cc)
 passed true false s j k e = (cc, cc, cc)
 passed false q s j k e = (cc, cc, cc)
 
-module _ (x z z' y y' : List ℕ) (start n k : ℕ) (r : Reading) (bytes : Bytes x) (w : Writes x start n z (Written k) z')
+module _ (x z z' y y' : List ℕ) (start n k : ℕ) (r : Reading) (bytes : Bytes x) (w : Writes x start n z (Ok k) z')
     (whole : length y ≡ 65536) where
   good : (length x ≡ 65536) × (start + n ≤ 65536) × (k ≡ length_for n)
   unfolding writing_of

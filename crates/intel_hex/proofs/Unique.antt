@@ -3,8 +3,7 @@ use Prim.Native.Nat.{ℕ}
 use mathlib.Core.Path.{◌≡◌}
 use mathlib.Core.List.{List}
 use Rattle.laws.proofs.Unique.{one_value}
-use Rattle.intel_hex.specs.declared.answer.Reading.{Reading}
-use Rattle.intel_hex.specs.declared.answer.Writing.{Writing}
+use Rattle.intel_hex.specs.Answer.{Reading, Writing}
 use Rattle.intel_hex.specs.Outcome.{Reads, Writes}
 
 pub read_unique : (t x x₁ x₂ : List ℕ) (r r' : Reading) → Reads t x r x₁ → Reads t x r' x₂ → (r ≡ r') × (x₁ ≡ x₂)

@@ -40,7 +40,7 @@ digits_back [] h = refl
 digits_back (b ∷ s) h = rw (pair_back b (h 0), digits_back s (λ j. h (suc j)))
 
 pub digits_hex : (s : List ℕ) → Bytes s → all_hex (digits_of s) ≡ true
-unfolding all_hex digits_of byte_of
+unfolding digits_of byte_of
 digits_hex [] h = refl
 digits_hex (b ∷ s) h =
     rw (digit_hex (b / 16) (omega (arith, h 0)), digit_hex (b % 16) (omega arith), digits_hex s (λ j. h (suc j)))

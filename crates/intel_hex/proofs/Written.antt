@@ -6,7 +6,7 @@ use mathlib.Core.List.{List, [], ◌∷◌, ◌++◌, append_assoc, append-nil}
 use native.Mathlib.Omega.{arith}
 use lib.ListN.{length, take, drop, set, length-take, length-drop}
 use lib.Seq.{sets}
-use Rattle.intel_hex.specs.declared.answer.Reading.TheVariants.{Read}
+use Rattle.std.specs.Prelude.{Ok}
 use Rattle.intel_hex.specs.declared.record.Line.TheVariants.{Data}
 use Rattle.intel_hex.specs.Lines.{text_lines, bare_of}
 use Rattle.intel_hex.specs.Record.{line_is, record_of}
@@ -50,7 +50,7 @@ module _ (k a : ℕ) (d : List ℕ) (h : Held (suc k) a d) where
   unfolding records_of
   first z = rw (append_assoc, record_first 0 a (take 16 d) (omega arith) place few first_bytes)
 
-  first_line : line_is (bare_of (record_of 0 a (take 16 d))) ≡ Data
+  first_line : line_is (bare_of (record_of 0 a (take 16 d))) ≡ Ok Data
   first_line = data_line a (take 16 d) place few first_bytes fits
 
   first_landed : (y : List ℕ) → landed_of (bare_of (record_of 0 a (take 16 d))) y ≡ sets y a (take 16 d)
@@ -72,7 +72,7 @@ last = record_first 1 0 [] (omega arith) (omega arith) (omega arith) (λ j. omeg
 
 -- all lines
 pub judged : (n k a : ℕ) (d z : List ℕ) → Held k a d
-    → judged_from n (text_lines (records_of k a d ++ (record_of 1 0 [] ++ z))) ≡ Read
+    → judged_from n (text_lines (records_of k a d ++ (record_of 1 0 [] ++ z))) ≡ Ok tt
 unfolding judged_from records_of
 judged n zero a d z h = rw (last, end_line)
 judged n (suc k) a d z h = rw (first k a d h, first_line k a d h) (judged (n + 1) k (a + 16) (drop 16 d) z (others k a d h))
@@ -87,7 +87,7 @@ landed (suc k) a d z y h =
     (landed k (a + 16) (drop 16 d) z (sets y a (take 16 d)) (others k a d h) ∙ sets_parts 16 d y a)
 
 -- a data record before others
-one_more : (line : List ℕ) (lines : List (List ℕ)) → line_is (bare_of line) ≡ Data → OnlyRecords lines → OnlyRecords (line ∷ lines)
+one_more : (line : List ℕ) (lines : List (List ℕ)) → line_is (bare_of line) ≡ Ok Data → OnlyRecords lines → OnlyRecords (line ∷ lines)
 one_more line [] e o = absurd o
 one_more line (next ∷ lines) e o = (e, o)
 

@@ -1,6 +1,7 @@
 -- Hex digits, two for a byte. Source: request W1, "digits are read in either case and written in capitals".
 -- Cited by `intel_hex::digits`.
 use Rattle.std.specs.Prelude.{ℕ, ◌+◌, ◌-◌, ◌*◌, ◌<◌, ◌≡◌, Bool, true, ◌&&◌, ◌||◌, List, [], ◌∷◌, ◌++◌, leb, length, get_or}
+use Rattle.std.specs.List.{list_all}
 use Rattle.laws.specs.Choice.{pick}
 use Rattle.text.specs.Numbers.{byte_of}
 
@@ -17,9 +18,8 @@ unfoldable pub digit_value : ℕ → ℕ
 digit_value c = pick (from_to 48 57 c) (c - 48) (pick (from_to 65 70 c) (c - 55) (pick (from_to 97 102 c) (c - 87) 0))
 
 -- every character is a hex digit
-unfoldable pub all_hex : List ℕ → Bool
-all_hex [] = true
-all_hex (c ∷ s) = is_hex c && all_hex s
+abbrev pub all_hex : List ℕ → Bool
+all_hex s = list_all is_hex s
 
 -- the byte that two digits say, the high one first
 unfoldable pub two_digits : ℕ → ℕ → ℕ

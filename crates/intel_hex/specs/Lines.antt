@@ -1,5 +1,5 @@
 -- A text as its lines. Source: request W1, "Lines end in LF or CR LF, which the last may lack". Cited by `intel_hex::lines`.
-use Rattle.std.specs.Prelude.{ℕ, suc, ◌-◌, List, [], ◌∷◌, eqb, length, get_or, take}
+use Rattle.std.specs.Prelude.{ℕ, ◌-◌, List, [], ◌∷◌, eqb, length, get_or, take}
 use Rattle.laws.specs.Choice.{pick}
 use Rattle.text.specs.Text.{feed}
 
@@ -16,11 +16,6 @@ in_front c (line ∷ lines) = (c ∷ line) ∷ lines
 unfoldable pub text_lines : List ℕ → List (List ℕ)
 text_lines [] = []
 text_lines (c ∷ text) = pick (eqb c feed) ((c ∷ []) ∷ text_lines text) (in_front c (text_lines text))
-
--- the length of the first line, with its ending
-unfoldable pub first_length : List ℕ → ℕ
-first_length [] = 0
-first_length (c ∷ text) = pick (eqb c feed) 1 (suc (first_length text))
 
 -- how many characters end a line: LF, or CR LF; a CR with no LF after it ends nothing
 unfoldable pub ending_of : List ℕ → ℕ

@@ -1,22 +1,19 @@
 -- What reading and writing answer and leave. Source: request W1. Cited by the public `read` and `write`.
-use Rattle.std.specs.Prelude.{ℕ, ◌≡◌, List, ◌++◌, length, drop}
-use Rattle.intel_hex.specs.declared.answer.Reading.{Reading}
-use Rattle.intel_hex.specs.declared.answer.Reading.TheVariants as reading
-use Rattle.intel_hex.specs.declared.answer.Writing.{Writing}
-use Rattle.intel_hex.specs.declared.answer.Writing.TheVariants as writing
+use Rattle.std.specs.Prelude.{ℕ, ◌≡◌, Ok, Err, List, ◌++◌, length, drop}
+use Rattle.intel_hex.specs.Answer.{Reading, Writing}
 use Rattle.intel_hex.specs.Lines.{text_lines}
 use Rattle.intel_hex.specs.Read.{landed_from, reading_of}
 use Rattle.intel_hex.specs.Write.{hex_of, range_of, writing_of}
 
 -- what is left of memory x by an answer: the text's records in it, or after a refusal as it was
 abbrev pub memory_by : Reading → List ℕ → List ℕ → List ℕ
-memory_by reading.Read text x = landed_from (text_lines text) x
-memory_by (reading.Refused reason line) text x = x
+memory_by (Ok read) text x = landed_from (text_lines text) x
+memory_by (Err fault) text x = x
 
 -- what is left of the output z: the text s from its start on, "Output past the text keeps its bytes", or all as it was
 abbrev pub output_by : Writing → List ℕ → List ℕ → List ℕ
-output_by (writing.Written n) s z = s ++ drop n z
-output_by (writing.Refused reason) s z = z
+output_by (Ok n) s z = s ++ drop n z
+output_by (Err reason) s z = z
 
 -- reading a text into memory x: the answer r, and x' afterwards
 pub record Reads (text x : List ℕ) (r : Reading) (x' : List ℕ) : Type 0 where

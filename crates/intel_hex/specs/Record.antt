@@ -1,12 +1,14 @@
 -- A record of Intel's format: a colon, then in hex digits the number of data bytes, the address (2 bytes, high first), the
 -- type, the data and a byte that makes the sum of all bytes 0 modulo 256. Source: Intel's Hexadecimal Object File Format
 -- Specification; request W1. Cited by `intel_hex::record`. l is a line without its ending.
-use Rattle.std.specs.Prelude.{ℕ, ◌+◌, ◌-◌, ◌*◌, ◌/◌, ◌%◌, ◌≤◌, ◌≡◌, Bool, true, ◌&&◌, ◌||◌, not, List, [], ◌∷◌, ◌++◌, eqb, leb, length, get_or, take, drop}
+use Rattle.std.specs.Prelude.{ℕ, ◌+◌, ◌-◌, ◌*◌, ◌/◌, ◌%◌, ◌≤◌, ◌≡◌, Result, Ok, Err, Bool, true, ◌&&◌, ◌||◌, not, List, [], ◌∷◌, ◌++◌, eqb, leb, length, get_or, take, drop}
 use Rattle.laws.specs.Choice.{pick}
 use Rattle.text.specs.Text.{feed}
+use Rattle.intel_hex.specs.declared.answer.Refusal.{Refusal}
 use Rattle.intel_hex.specs.declared.answer.Refusal.TheVariants.{Malformed, OtherType, PastEnd}
+use Rattle.intel_hex.specs.declared.record.Fields.{Fields}
 use Rattle.intel_hex.specs.declared.record.Line.{Line}
-use Rattle.intel_hex.specs.declared.record.Line.TheVariants.{Data, End, Faulty}
+use Rattle.intel_hex.specs.declared.record.Line.TheVariants.{Data, End}
 use Rattle.intel_hex.specs.Lines.{carriage}
 use Rattle.intel_hex.specs.Digits.{all_hex, byte_at, bytes_in, digits_of, byte_sum}
 
@@ -26,6 +28,9 @@ record_address l = 256 * byte_at l 3 + byte_at l 5
 
 abbrev pub record_type : List ℕ → ℕ
 record_type l = byte_at l 7
+
+abbrev pub fields_of : List ℕ → Fields
+fields_of l = record { count = record_count l; address = record_address l; kind = record_type l }
 
 abbrev pub record_data : List ℕ → List ℕ
 record_data l = take (record_count l) (bytes_in (drop 9 l))
@@ -47,12 +52,12 @@ unfoldable pub line_formed : List ℕ → Bool
 line_formed l = eqb (get_or l 0 0) colon && all_hex (drop 1 l) && record_sound l
 
 -- what a line is, its faults "in number order": 15 malformed, 16 other type, 17 data past hex FFFF
-unfoldable pub line_is : List ℕ → Line
+unfoldable pub line_is : List ℕ → Result Line Refusal
 line_is l =
     pick (line_formed l)
-    (pick (eqb (record_type l) 1) End
-    (pick (eqb (record_type l) 0) (pick (leb (record_address l + record_count l) 65536) Data (Faulty PastEnd)) (Faulty OtherType)))
-    (Faulty Malformed)
+    (pick (eqb (record_type l) 1) (Ok End)
+    (pick (eqb (record_type l) 0) (pick (leb (record_address l + record_count l) 65536) (Ok Data) (Err PastEnd)) (Err OtherType)))
+    (Err Malformed)
 
 -- a record written, of type t, with the data d for address a: its bytes, the last of which makes the sum 0 modulo 256, and
 -- its line, which ends in CR LF

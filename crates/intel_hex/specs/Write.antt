@@ -1,9 +1,8 @@
 -- A range of memory as text. Source: request W1. Cited by `intel_hex::write`.
-use Rattle.std.specs.Prelude.{ℕ, zero, suc, ◌+◌, ◌*◌, ◌/◌, List, [], ◌++◌, eqb, leb, length, take, drop}
+use Rattle.std.specs.Prelude.{ℕ, zero, suc, Ok, Err, ◌+◌, ◌*◌, ◌/◌, List, [], ◌++◌, eqb, leb, length, take, drop}
 use Rattle.laws.specs.Choice.{pick}
 use Rattle.intel_hex.specs.declared.answer.Refusal.TheVariants.{MemorySize, PastEnd, OutputSize}
-use Rattle.intel_hex.specs.declared.answer.Writing.{Writing}
-use Rattle.intel_hex.specs.declared.answer.Writing.TheVariants.{Written, Refused}
+use Rattle.intel_hex.specs.Answer.{Writing}
 use Rattle.intel_hex.specs.Record.{record_of}
 
 -- how many data records n bytes take: one for each 16, "the last shorter"
@@ -31,5 +30,5 @@ length_for n = 2 * n + 13 * records_for n + 13
 unfoldable pub writing_of : ℕ → ℕ → ℕ → ℕ → Writing
 writing_of m start n z =
     pick (eqb m 65536)
-    (pick (leb (start + n) 65536) (pick (leb (length_for n) z) (Written (length_for n)) (Refused OutputSize)) (Refused PastEnd))
-    (Refused MemorySize)
+    (pick (leb (start + n) 65536) (pick (leb (length_for n) z) (Ok (length_for n)) (Err OutputSize)) (Err PastEnd))
+    (Err MemorySize)

@@ -1,35 +1,14 @@
 // The lines of a text.
-ghost use Rattle.std.specs.Prelude.{◌≡◌, ◌+◌, ◌-◌, ◌≤◌, ◌<◌, length, drop};
-ghost use Rattle.intel_hex.specs.Lines.{first_length, ending_of};
+ghost use Rattle.std.specs.Prelude.{◌≡◌};
+ghost use Rattle.intel_hex.specs.Lines.{bare_of};
 
-// The place after the line that begins at a place: after the next LF, or the end of the text.
-pub(crate) fn line_end(text: &[u8], at: usize) -> usize
-    requires { at ≤ length text.now }
-    ensures { result ≡ at + first_length (drop at text.now) }
+// A line without its ending.
+#[tactic(auto, unfolding(crate::specs::Lines::bare_of, crate::specs::Lines::ending_of))]
+pub(crate) fn bare(line: &[u8]) -> &[u8]
+    ensures { result.now ≡ bare_of line.now }
 {
-    let mut i = at;
-    while i < text.len() {
-        if text[i] == b'\n' {
-            return i + 1;
-        }
-        i += 1;
+    match line {
+        [bare @ .., b'\r', b'\n'] | [bare @ .., b'\n'] => bare,
+        _ => line,
     }
-    i
-}
-
-// How long a line is without its ending.
-pub(crate) fn bare_length(line: &[u8]) -> usize
-    ensures { result ≡ length line.now - ending_of line.now }
-{
-    let n = line.len();
-    if n < 1 {
-        return 0;
-    }
-    if line[n - 1] != b'\n' {
-        return n;
-    }
-    if n < 2 {
-        return 0;
-    }
-    if line[n - 2] == b'\r' { n - 2 } else { n - 1 }
 }

@@ -1,6 +1,5 @@
 -- The modules of this folder.
 pub mod Every
-pub mod Last
 pub mod Listed
 pub mod Order
 pub mod Tests

@@ -33,6 +33,11 @@ pub or_either : (a b : Bool) → T (a || b) → T a ⊎ T b
 or_either true b t = inl tt
 or_either false b t = inr t
 
+-- two tests in one, as a choice
+pub and_pick : (b c d : Bool) → c ≡ d → (b && c) ≡ pick b d false
+and_pick true c d e = e
+and_pick false c d e = refl
+
 -- what holds of each side where it is chosen, holds of the choice
 pub pick_both : {A : Type 0} (P : A → Type 0) (b : Bool) (x y : A) → (b ≡ true → P x) → (b ≡ false → P y) → P (pick b x y)
 pick_both P true x y f g = f refl

@@ -15,23 +15,24 @@ use opcodes::cycle::Acknowledge;
 use opcodes::{condition, cycle, entry, table};
 
 // A byte and its flags as one number.
+#[tactic(auto, unfolding(crate::specs::Numbers::flagged_number))]
 fn flagged_number(x: Flagged) -> u16
     ensures { result ≡ flagged_number x }
 {
-    let flags = x.flags;
-    (x.value as u16) + 256 * (flags::flag_byte(flags) as u16)
+    u16::from_le_bytes([x.value, flags::flag_byte(x.flags)])
 }
 
 // ADD, ADC, SUB, SBB, ANA, XRA, ORA, CMP for y from 0 to 7; only the CY of the flag byte f counts.
+#[tactic(auto, unfolding(crate::specs::Numbers::leaf_arithmetic_of))]
 #[unsafe(no_mangle)]
 pub extern "C" fn leaf_arithmetic(y: u8, a: u8, b: u8, f: u8) -> u16
     ensures { result ≡ leaf_arithmetic_of y a b f }
 {
-    let before = flags::flags_of(f);
-    flagged_number(groups::arithmetic(y, a, b, before.cy))
+    flagged_number(groups::arithmetic(y, a, b, flags::flags_of(f).cy))
 }
 
 // RLC, RRC, RAL, RAR, DAA, CMA, STC, CMC for y from 0 to 7.
+#[tactic(auto, unfolding(crate::specs::Numbers::leaf_accumulator_of))]
 #[unsafe(no_mangle)]
 pub extern "C" fn leaf_accumulator(y: u8, a: u8, f: u8) -> u16
     ensures { result ≡ leaf_accumulator_of y a f }
@@ -40,30 +41,31 @@ pub extern "C" fn leaf_accumulator(y: u8, a: u8, f: u8) -> u16
 }
 
 // INR.
+#[tactic(auto, unfolding(crate::specs::Numbers::leaf_inr_of))]
 #[unsafe(no_mangle)]
 pub extern "C" fn leaf_inr(v: u8, f: u8) -> u16
     ensures { result ≡ leaf_inr_of v f }
 {
-    let before = flags::flags_of(f);
-    flagged_number(sums::inr(v, before.cy))
+    flagged_number(sums::inr(v, flags::flags_of(f).cy))
 }
 
 // DCR.
+#[tactic(auto, unfolding(crate::specs::Numbers::leaf_dcr_of))]
 #[unsafe(no_mangle)]
 pub extern "C" fn leaf_dcr(v: u8, f: u8) -> u16
     ensures { result ≡ leaf_dcr_of v f }
 {
-    let before = flags::flags_of(f);
-    flagged_number(sums::dcr(v, before.cy))
+    flagged_number(sums::dcr(v, flags::flags_of(f).cy))
 }
 
 // DAD: the sum, and 65,536 times the carry.
+#[tactic(auto, unfolding(crate::specs::Numbers::leaf_dad_of))]
 #[unsafe(no_mangle)]
 pub extern "C" fn leaf_dad(h: u16, x: u16) -> u32
     ensures { result ≡ leaf_dad_of h x }
 {
     let sum = words::dad(h, x);
-    (sum.value as u32) + 65536 * (flags::bit(sum.cy) as u32)
+    u32::from(sum.value) + 65536 * u32::from(sum.cy)
 }
 
 // x + n modulo 65,536.
@@ -83,12 +85,12 @@ pub extern "C" fn leaf_down(x: u16, n: u16) -> u16
 }
 
 // The table's entry of an opcode.
+#[tactic(auto, using(opcodes::proofs::Entries::entry_at))]
 #[unsafe(no_mangle)]
 pub extern "C" fn leaf_entry(op: u8) -> u64
     ensures { result ≡ entry_of op }
 {
-    let all = table::table();
-    entry::entry(&all, op)
+    entry::entry(table::table(), op)
 }
 
 // The code of cycle c of an entry, counted from 1; 0 where there is none.
@@ -116,6 +118,7 @@ pub extern "C" fn leaf_defined(p: u64) -> bool
 }
 
 // The kind of a cycle, outside an acknowledge.
+#[tactic(auto, unfolding(crate::specs::Numbers::leaf_kind_of))]
 #[unsafe(no_mangle)]
 pub extern "C" fn leaf_kind(code: u8) -> u8
     ensures { result ≡ leaf_kind_of code }

@@ -3,3 +3,4 @@ pub mod Halt
 pub mod Turn
 pub mod Length
 pub mod Examples
+pub mod Places

@@ -1,34 +1,29 @@
 -- One turn of the loop that writes the lines.
 -- Assumes nothing.
-use Prim.Native.Nat.{ℕ, zero, suc, ◌+◌, ◌-◌, ◌*◌, ◌≤◌, ◌<◌}
-use mathlib.Core.Path.{◌≡◌}
-use mathlib.Core.List.{List, ◌++◌}
+use Prim.Native.Nat.{ℕ, suc, ◌+◌, ◌<◌}
+use mathlib.Core.Path.{◌≡◌, refl}
+use mathlib.Core.List.{List, [], ◌∷◌, ◌++◌}
 use native.Mathlib.Omega.{arith}
-use lib.ListN.{length, take, drop, length-drop}
-use lib.Seq.{take_all}
-use Rattle.text.specs.Text.{Text, written_of}
+use lib.ListN.{length, take, get_or}
+use Rattle.std.proofs.Common.{append_assoc, append-nil, add-zero, zero-add}
+use Rattle.std.proofs.lemmas.List.{take_more, length-take-le}
+use Rattle.text.specs.Writer.{Adds}
+use Rattle.text.specs.declared.Text.{Text}
+use Rattle.text.proofs.Writer.{writes_both}
 use Rattle.listing.specs.Lines.{state_line_of}
 use Rattle.listing.specs.Listing.{state_lines_of}
-use Rattle.text.proofs.Written.{written_none, written_both}
 
-suc_less : (k : ℕ) → suc k - 1 ≡ k
-suc_less k = omega arith
+-- the lines of some rows and of one more
+one_more : (i : ℕ) (rows : List (List ℕ)) (row : List ℕ)
+    → state_lines_of i (rows ++ row ∷ []) ≡ state_lines_of i rows ++ state_line_of (i + length rows) row
+unfolding state_lines_of
+one_more i [] row = rw (append-nil, add-zero) refl
+one_more i (first ∷ rows) row =
+    let here : i + 1 + length rows ≡ i + suc (length rows) = omega arith in
+    rw (append_assoc, ← here, one_more (i + 1) rows row) refl
 
--- no line, and one line more
-module _ (l : List ℕ) (i : ℕ) where
-  pub rows_none : (n : ℕ) (t : Text) → n ≤ 0 → written_of (state_lines_of l i n) t ≡ t
-  unfolding state_lines_of
-  rows_none zero t h = written_none t
-  rows_none (suc n) t h = absurd (let no : ⊥ = omega arith in no)
-
-  rows_more : (n : ℕ) → 0 < n → state_lines_of l i n ≡ state_line_of i (drop (8 * i) l) ++ state_lines_of l (i + 1) (n - 1)
-  unfolding state_lines_of
-  rows_more zero h = absurd (let no : ⊥ = omega arith in no)
-  rows_more (suc n) h = simp suc_less
-
-  -- so a turn, which lends the part of the trace that begins with row i, leaves the whole text as it was
-  pub rows_turn : (n : ℕ) (t u : Text) → 0 < n → u ≡ written_of (state_line_of i (take (length l - 8 * i) (drop (8 * i) l))) t
-      → written_of (state_lines_of l (i + 1) (n - 1)) u ≡ written_of (state_lines_of l i n) t
-  rows_turn n t u h e =
-      let whole = take_all (length l - 8 * i) (drop (8 * i) l) (simp length-drop (omega arith)) in
-      rw (e, whole, rows_more n h, written_both)
+pub lines_turn : (i : ℕ) (rows : List (List ℕ)) {t u v : Text} → i < length rows → Adds (state_lines_of 0 (take i rows)) t u
+    → Adds (state_line_of i (get_or rows i [])) u v → Adds (state_lines_of 0 (take (i + 1) rows)) t v
+lines_turn i rows h p q =
+    let all : length (take i rows) ≡ i = length-take-le i rows (omega arith) in
+    rw (take_more rows i [] h, one_more, all, zero-add) (writes_both p q)

@@ -1,60 +1,46 @@
 // A trace as text: a line for each state before the machine halts, and a last line.
 #![tactic(auto)]
 
-ghost use Rattle.std.specs.Prelude.{◌≡◌, ◌*◌, ◌≤◌, min, length};
-ghost use Rattle.text.specs.Text.{text_of, written_of};
+ghost use Rattle.std.specs.Prelude.{◌≡◌};
+ghost use Rattle.text.specs.Writer.{Adds};
 ghost use Rattle.listing.specs.Listing.{before_halt_of, state_lines_of, Lists};
 
 use crate::lines::{last_line, state_line};
+use text::Text;
 
 mod lines;
 
-// The smaller of two numbers.
-fn least(a: usize, b: usize) -> usize
-    ensures { result ≡ min a b }
+// How many of the first states of a trace, given by its rows, come before the first halt state.
+#[tactic(auto, unfolding(crate::specs::Listing::before_halt_of))]
+fn before_halt(rows: &[[u8; 8]], states: usize) -> usize
+    ensures { result ≡ before_halt_of rows.now states }
 {
-    if a < b { a } else { b }
+    rows.iter()
+        .take(states)
+        .take_while(|row| row[0] != 8)
+        .count()
 }
 
-// How many of the states in a trace come before the first halt state. No more are counted than the trace has rows.
-fn before_halt(trace: &[u8], states: usize) -> usize
-    ensures { result ≡ before_halt_of trace.now states }
+// The lines of the states with these rows, from state 0 on.
+#[tactic(auto, unfolding(crate::specs::Listing::state_lines_of), using(text::proofs::Writer::writes_none, crate::proofs::Turn::lines_turn))]
+fn state_lines(text: &mut Text<'_>, rows: &[[u8; 8]])
+    ensures { Adds (state_lines_of 0 rows.now) text.old text.new }
 {
-    let mut left = least(states, trace.len() / 8);
-    let mut i: usize = 0;
-    while 0 < left {
-        if trace[8 * i] == 8 {
-            return i;
-        }
-        i += 1;
-        left -= 1;
+    for (i, row) in rows.iter().enumerate() {
+        state_line(text, i, row);
     }
-    i
-}
-
-// The lines of the first n states, from the start of out on.
-fn state_lines(out: &mut [u8], trace: &[u8], n: usize) -> usize
-    requires { 8 * n ≤ length trace.now }
-    ensures { text_of out.new result ≡ written_of (state_lines_of trace.now 0 n) (text_of out.old 0) }
-{
-    let mut at: usize = 0;
-    let mut i: usize = 0;
-    let mut left = n;
-    while 0 < left {
-        let start = 8 * i;
-        at = state_line(out, at, i, &trace[start..]);
-        i += 1;
-        left -= 1;
-    }
-    at
 }
 
 // The listing of a trace, from the start of out on, and its length: the states before the first halt state, then A, PC and
 // the number of these states. What finds no room in out is left out; with 38 bytes a row and 41 more, all fits.
+#[tactic(auto, using(crate::proofs::Halt::rows_taken))]
 pub fn listing(out: &mut [u8], trace: &[u8], states: usize, a: u8, pc: u16) -> usize
     ensures { Lists trace.now states a pc out.old result out.new }
 {
-    let n = before_halt(trace, states);
-    let at = state_lines(out, trace, n);
-    last_line(out, at, a, pc, n)
+    let (rows, _) = trace.as_chunks::<8>();
+    let n = before_halt(rows, states);
+    let mut text = Text { out, at: 0 };
+    state_lines(&mut text, &rows[..n]);
+    last_line(&mut text, a, pc, n);
+    text.at
 }

@@ -1,14 +1,16 @@
-// The cycle under way, looked up in the table that the caller lends.
+// The cycle under way, looked up in the opcode table.
 ghost use Rattle.std.specs.Prelude.{◌≡◌, ◌<◌};
-ghost use Rattle.opcodes.specs.Entries.{entries};
 ghost use Rattle.opcodes.specs.Cycles.{code_of, defined_of};
 ghost use Rattle.machine.specs.Cycle.{after_of, cycles_of, cycle_of};
 
 use opcodes::condition::met;
+use opcodes::cycle::states;
 use opcodes::entry::{code, count, defined, entry};
+use opcodes::table::table;
 
-// A cycle: its code, its states, and the number of the cycle after it, 0 after the last.
-#[derive(Clone, Copy)]
+// A cycle: its code, its states, and the number of the cycle after it, 0 after the last. No Option: the rules `follow_of` and
+// `end_of` take that number, and theorems of `demands` speak of it (`drop_last` of proofs/Courses).
+#[derive(Clone, Copy, Debug, PartialEq, Eq)]
 pub struct Cycle {
     pub code: u8,
     pub states: u8,
@@ -16,6 +18,7 @@ pub struct Cycle {
 }
 
 // The number of the cycle after c, of n.
+#[tactic(auto, unfolding(crate::specs::Cycle::after_of))]
 fn after(n: u8, c: u8) -> u8
     requires { n < 16 }
     ensures { result ≡ after_of n c }
@@ -24,38 +27,38 @@ fn after(n: u8, c: u8) -> u8
 }
 
 // Whether the opcode is defined.
-pub(crate) fn is_defined(t: &[u64; 256], op: u8) -> bool
-    requires { t.now ≡ entries }
+#[tactic(auto, using(crate::proofs::Looked::defined_looked))]
+pub(crate) fn is_defined(op: u8) -> bool
     ensures { result ≡ defined_of op }
 {
-    defined(entry(t, op))
+    defined(entry(table(), op))
 }
 
 // The code of cycle c of the opcode.
-pub(crate) fn code_at(t: &[u64; 256], op: u8, c: u8) -> u8
-    requires { t.now ≡ entries }
+#[tactic(auto, using(crate::proofs::Looked::code_looked))]
+pub(crate) fn code_at(op: u8, c: u8) -> u8
     ensures { result ≡ code_of op c }
 {
-    code(entry(t, op), c)
+    code(entry(table(), op), c)
 }
 
 // How many cycles the opcode has under the flag byte f.
-pub(crate) fn cycles(t: &[u64; 256], op: u8, f: u8) -> u8
-    requires { t.now ≡ entries }
+#[tactic(auto, using(crate::proofs::Looked::count_looked), unfolding(crate::specs::Cycle::cycles_of))]
+pub(crate) fn cycles(op: u8, f: u8) -> u8
     ensures { (result ≡ cycles_of op f) × (result < 16) }
 {
-    count(entry(t, op), met(op, f))
+    count(entry(table(), op), met(op, f))
 }
 
 // Cycle c of it.
-pub(crate) fn cycle_at(t: &[u64; 256], op: u8, f: u8, c: u8) -> Cycle
-    requires { t.now ≡ entries }
+#[tactic(auto, unfolding(crate::specs::Cycle::cycle_of))]
+pub(crate) fn cycle_at(op: u8, f: u8, c: u8) -> Cycle
     ensures { result ≡ cycle_of op f c }
 {
-    let code = code_at(t, op, c);
+    let code = code_at(op, c);
     Cycle {
-        code: code,
-        states: opcodes::cycle::states(code),
-        after: after(cycles(t, op, f), c),
+        code,
+        states: states(code),
+        after: after(cycles(op, f), c),
     }
 }

@@ -1,113 +1,91 @@
-// How a cycle and an instruction end. In all of these c is the cycle, and n the number of the cycle after it, 0 after the last.
+// How a cycle and an instruction end. In all of these c is the cycle, and n the number of the cycle after it, 0 after the last, as
+// the rules take them.
 ghost use Rattle.std.specs.Prelude.{◌≡◌};
 ghost use Rattle.machine.specs.Ending.{takes_of, acknowledge_of, clear_of, ended_of, follow_of, hold_of, end_of};
 
-use crate::record::{Machine, Position};
+use crate::record::{DOWN, Machine, Position};
 use effect::kept::kept_for;
 use effect::last::effect;
 use opcodes::cycle::Acknowledge;
 
-const HLT: u8 = 0x76;
+pub(crate) const HLT: u8 = 0x76;
 
 const EI: u8 = 0xFB;
 
-// INT when it is down.
-const DOWN: u8 = 8;
-
 impl Machine {
     // Whether an interrupt is taken.
-    fn takes(self) -> bool
-        ensures { result ≡ takes_of self }
+    #[tactic(auto, unfolding(crate::specs::Ending::takes_of))]
+    fn takes(&self) -> bool
+        ensures { result ≡ takes_of self.now }
     {
-        let lines = self.lines;
-        let regs = self.regs;
-        let kept = self.kept;
-        (lines.int < DOWN) & regs.inte & !(kept.opcode == EI)
+        self.lines.int < DOWN && self.regs.inte && self.kept.opcode != EI
     }
 
     // The interrupt is taken.
-    fn acknowledge(self, ack: Acknowledge) -> Machine
-        ensures { result ≡ acknowledge_of ack self }
+    #[tactic(auto, unfolding(crate::specs::Ending::acknowledge_of))]
+    fn acknowledge(&mut self, ack: Acknowledge)
+        ensures { self.new ≡ acknowledge_of ack self.old }
     {
-        let mut regs = self.regs;
-        let mut lines = self.lines;
-        let kept = kept_for(ack, lines.int);
-        lines.int = DOWN;
-        regs.inte = false;
-        Machine {
-            regs: regs,
-            kept: kept,
-            lines: lines,
-            next: Position::Fetch,
-            ..self
-        }
+        self.kept = kept_for(ack, self.lines.int);
+        self.lines.int = DOWN;
+        self.regs.inte = false;
+        self.next = Position::Fetch;
     }
 
     // Nothing is kept any more.
-    pub(crate) fn clear(self, next: Position) -> Machine
-        ensures { result ≡ clear_of next self }
+    #[tactic(auto, unfolding(crate::specs::Ending::clear_of))]
+    pub(crate) fn clear(&mut self, next: Position)
+        ensures { self.new ≡ clear_of next self.old }
     {
-        Machine {
-            kept: kept_for(Acknowledge::None, 0),
-            next: next,
-            ..self
-        }
+        self.kept = kept_for(Acknowledge::None, 0);
+        self.next = next;
     }
 
     // The instruction is over: a fetch or a halt state, or an acknowledge in its place.
-    fn ended(self) -> Machine
-        ensures { result ≡ ended_of self }
+    #[tactic(auto, unfolding(crate::specs::Ending::ended_of))]
+    fn ended(&mut self)
+        ensures { self.new ≡ ended_of self.old }
     {
-        let kept = self.kept;
-        if self.takes() {
-            if kept.opcode == HLT {
-                self.acknowledge(Acknowledge::Halted)
-            } else {
-                self.acknowledge(Acknowledge::Running)
-            }
-        } else {
-            if kept.opcode == HLT {
-                self.clear(Position::Halt)
-            } else {
-                self.clear(Position::Fetch)
-            }
+        match (self.takes(), self.kept.opcode == HLT) {
+            (true, true) => self.acknowledge(Acknowledge::Halted),
+            (true, false) => self.acknowledge(Acknowledge::Running),
+            (false, true) => self.clear(Position::Halt),
+            (false, false) => self.clear(Position::Fetch),
         }
     }
 
     // The cycle and its holds are over.
-    fn follow(self, n: u8) -> Machine
-        ensures { result ≡ follow_of n self }
+    #[tactic(auto, unfolding(crate::specs::Ending::follow_of, crate::specs::Record::with_next))]
+    fn follow(&mut self, n: u8)
+        ensures { self.new ≡ follow_of n self.old }
     {
         if n == 0 {
-            self.ended()
+            self.ended();
         } else {
-            self.with_next(Position::Later { cycle: n, state: 1 })
+            self.next = Position::Later { cycle: n, state: 1 };
         }
     }
 
     // The changes of the cycle are made: a hold, or what follows.
-    pub(crate) fn hold(self, c: u8, n: u8) -> Machine
-        ensures { result ≡ hold_of c n self }
+    #[tactic(auto, unfolding(crate::specs::Ending::hold_of, crate::specs::Record::with_next))]
+    pub(crate) fn hold(&mut self, c: u8, n: u8)
+        ensures { self.new ≡ hold_of c n self.old }
     {
-        let lines = self.lines;
-        if lines.hold == 1 {
-            self.with_next(Position::Hold { cycle: c })
+        if self.lines.hold == 1 {
+            self.next = Position::Hold { cycle: c };
         } else {
-            self.follow(n)
+            self.follow(n);
         }
     }
 
     // The last state of the cycle, with the instruction's changes if the cycle is its last.
-    pub(crate) fn end(self, c: u8, n: u8) -> Machine
-        ensures { result ≡ end_of c n self }
+    #[tactic(auto, unfolding(crate::specs::Ending::end_of, crate::specs::Record::with_regs))]
+    pub(crate) fn end(&mut self, c: u8, n: u8)
+        ensures { self.new ≡ end_of c n self.old }
     {
-        let kept = self.kept;
-        let regs = self.regs;
-        let last = n == 0;
-        if last {
-            self.with_regs(effect(kept, regs)).hold(c, n)
-        } else {
-            self.hold(c, n)
+        if n == 0 {
+            self.regs = effect(self.kept, self.regs);
         }
+        self.hold(c, n);
     }
 }

@@ -1,22 +1,22 @@
 // What a state shows of its cycle and of the address bus.
 ghost use Rattle.std.specs.Prelude.{◌≡◌};
-ghost use Rattle.opcodes.specs.Entries.{entries};
 ghost use Rattle.machine.specs.Look.{place_of, stands_of, first_pc_of, shown_of, look_at, look_of};
 
 use crate::cycle::code_at;
 use crate::record::{Machine, Position};
-use effect::kept::Kept;
-use effect::registers::Registers;
+use alu::words::down;
+use effect::bus::address;
+use opcodes::cycle::{HALTING, kind, raises};
 
-// A cycle's number, and the trace's code of a state in it.
-#[derive(Clone, Copy)]
+// A cycle's number, and the trace's code of a state in it: the bytes that the trace carries, so no enum.
+#[derive(Clone, Copy, Debug, PartialEq, Eq)]
 pub struct Place {
     pub cycle: u8,
     pub state: u8,
 }
 
-// What a state shows, but for the data.
-#[derive(Clone, Copy)]
+// What a state shows, but for the data. Cycle, state and kind are the bytes of the trace, and code is what the table has.
+#[derive(Clone, Copy, Debug, PartialEq, Eq)]
 pub struct Look {
     pub cycle: u8,
     pub state: u8,
@@ -25,92 +25,79 @@ pub struct Look {
     pub address: u16,
 }
 
-const HALTING: u8 = 0xC0;
-
+// The place of what comes next: cycle 1 and state 1 for a fetch, 2 and 8 for a halt state, 0 and 0 for a stop.
+#[tactic(auto, unfolding(crate::specs::Look::place_of))]
 fn place_of(p: Position) -> Place
     ensures { result ≡ place_of p }
 {
     match p {
         Position::Fetch => Place { cycle: 1, state: 1 },
-        Position::Later { cycle: c, state: s } => Place { cycle: c, state: s },
-        Position::Wait { cycle: c } => Place { cycle: c, state: 6 },
-        Position::Hold { cycle: c } => Place { cycle: c, state: 7 },
+        Position::Later { cycle, state } => Place { cycle, state },
+        Position::Wait { cycle } => Place { cycle, state: 6 },
+        Position::Hold { cycle } => Place { cycle, state: 7 },
         Position::Halt => Place { cycle: 2, state: 8 },
         Position::Stop => Place { cycle: 0, state: 0 },
     }
 }
 
 // The states in which an address stands.
+#[tactic(auto, unfolding(crate::specs::Look::stands_of))]
 fn stands(s: u8) -> bool
     ensures { result ≡ stands_of s }
 {
-    (s <= 3) | (s == 6)
-}
-
-// PC as it was in T1 of the cycle.
-fn first_pc(code: u8, s: u8, k: Kept, r: Registers) -> u16
-    ensures { result ≡ first_pc_of code s k r }
-{
-    if s <= 2 {
-        return r.pc;
-    }
-    let ack = k.ack;
-    if opcodes::cycle::raises(code, ack) {
-        alu::words::down(r.pc, 1)
-    } else {
-        r.pc
-    }
+    s <= 3 || s == 6
 }
 
 // The code of the cycle shown.
-fn shown(t: &[u64; 256], p: Place, op: u8) -> u8
-    requires { t.now ≡ entries }
+#[tactic(auto, unfolding(crate::specs::Look::shown_of))]
+fn shown(p: Place, op: u8) -> u8
     ensures { result ≡ shown_of p op }
 {
     if p.state == 8 {
         HALTING
     } else {
-        code_at(t, op, p.cycle)
+        code_at(op, p.cycle)
     }
 }
 
 impl Machine {
+    // PC as it was in T1 of the cycle, in state s of it.
+    #[tactic(auto, unfolding(crate::specs::Look::first_pc_of))]
+    fn first_pc(self, code: u8, s: u8) -> u16
+        ensures { result ≡ first_pc_of code s self.kept self.regs }
+    {
+        if 2 < s && raises(code, self.kept.ack) {
+            down(self.regs.pc, 1)
+        } else {
+            self.regs.pc
+        }
+    }
+
     // What the state at a place shows, whose cycle has this code.
+    #[tactic(auto, unfolding(crate::specs::Look::look_at))]
     fn look_at(self, p: Place, code: u8) -> Look
         ensures { result ≡ look_at p code self }
     {
-        let kept = self.kept;
-        let regs = self.regs;
-        let ack = kept.ack;
-        let kind = opcodes::cycle::kind(code, ack);
-        if stands(p.state) {
-            let pc = first_pc(code, p.state, kept, regs);
-            Look {
-                cycle: p.cycle,
-                state: p.state,
-                code: code,
-                kind: kind,
-                address: effect::bus::address(code, pc, kept, regs),
-            }
-        } else {
-            Look {
-                cycle: p.cycle,
-                state: p.state,
-                code: code,
-                kind: kind,
-                address: 0,
-            }
+        let Place { cycle, state } = p;
+        Look {
+            cycle,
+            state,
+            code,
+            kind: kind(code, self.kept.ack),
+            address: if stands(state) {
+                address(code, self.first_pc(code, state), self.kept, self.regs)
+            } else {
+                0
+            },
         }
     }
 
     // What the state that comes next shows.
-    pub fn look(self, t: &[u64; 256]) -> Look
-        requires { t.now ≡ entries }
+    #[tactic(auto, unfolding(crate::specs::Look::look_of))]
+    pub fn look(self) -> Look
         ensures { result ≡ look_of self }
     {
-        let next = self.next;
-        let kept = self.kept;
-        let p = place_of(next);
-        self.look_at(p, shown(t, p, kept.opcode))
+        let p = place_of(self.next);
+        self.look_at(p, shown(p, self.kept.opcode))
     }
 }

@@ -1,14 +1,15 @@
 // The machine's record, the cold machine, what comes next, and the record with a part changed.
 ghost use Rattle.std.specs.Prelude.{◌≡◌};
-ghost use Rattle.machine.specs.Record.{cold_of, with_next, with_regs, with_kept, with_lines, with_clock};
+ghost use Rattle.machine.specs.Record.{cold_of, with_regs, with_lines};
 ghost use Rattle.machine.specs.Record.{next_number, stopped_of, ticked_of};
 
-use effect::kept::Kept;
+use effect::kept::{Kept, kept_for};
 use effect::registers::Registers;
 use opcodes::cycle::Acknowledge;
 
-// What comes next; cycles and states count from 1. T1 of the first cycle is Fetch, an acknowledge's too.
-#[derive(Clone, Copy)]
+// What comes next; cycles and states count from 1. T1 of the first cycle is Fetch, an acknowledge's too. A record may hold any
+// number here, and `well` judges it (document 01, "Numbers returned").
+#[derive(Clone, Copy, Debug, PartialEq, Eq)]
 pub enum Position {
     Fetch,
     Later { cycle: u8, state: u8 },
@@ -18,8 +19,9 @@ pub enum Position {
     Stop,
 }
 
-// The levels: READY and HOLD 0 down or 1 up, INT 0 to 7 up with that restart number or 8 down.
-#[derive(Clone, Copy)]
+// The levels: READY and HOLD 0 down or 1 up, INT 0 to 7 up with that restart number or 8 down. Numbers, as a record may hold any
+// and `well` judges it.
+#[derive(Clone, Copy, Debug, PartialEq, Eq)]
 pub struct Lines {
     pub ready: u8,
     pub hold: u8,
@@ -27,7 +29,7 @@ pub struct Lines {
 }
 
 // clock is the number of states done.
-#[derive(Clone, Copy)]
+#[derive(Clone, Copy, Debug, PartialEq, Eq)]
 pub struct Machine {
     pub regs: Registers,
     pub kept: Kept,
@@ -36,10 +38,8 @@ pub struct Machine {
     pub next: Position,
 }
 
-// The numbers of a halt state and of a stop.
-pub(crate) const HALT: u8 = 1;
-
-pub(crate) const STOP: u8 = 2;
+// INT when it is down.
+pub(crate) const DOWN: u8 = 8;
 
 // What comes next as a number: 0 fetch, 1 halt state, 2 stop, 3 later state, 4 wait, 5 hold.
 pub fn next_number(p: Position) -> u8
@@ -47,33 +47,37 @@ pub fn next_number(p: Position) -> u8
 {
     match p {
         Position::Fetch => 0,
-        Position::Later { cycle: _, state: _ } => 3,
-        Position::Wait { cycle: _ } => 4,
-        Position::Hold { cycle: _ } => 5,
-        Position::Halt => HALT,
-        Position::Stop => STOP,
+        Position::Later { .. } => 3,
+        Position::Wait { .. } => 4,
+        Position::Hold { .. } => 5,
+        Position::Halt => 1,
+        Position::Stop => 2,
     }
 }
 
 // Nothing comes next.
+#[tactic(auto, unfolding(crate::specs::Record::stopped_of))]
 pub fn stopped(p: Position) -> bool
     ensures { result ≡ stopped_of p }
 {
-    next_number(p) == STOP
+    matches!(p, Position::Stop)
 }
 
 // The clock after one more state: it counts every state, and a stopped machine does none.
+#[tactic(auto, unfolding(crate::specs::Record::ticked_of))]
 pub(crate) fn ticked(next: Position, clock: u32) -> u32
     ensures { result ≡ ticked_of next clock }
 {
     if stopped(next) {
         clock
     } else {
-        std::num::wrapping_add_u32(clock, 1)
+        clock.wrapping_add(1)
     }
 }
 
 impl Machine {
+    // The machine just switched on, with READY up and no hold or interrupt asked for.
+    #[tactic(auto, unfolding(crate::specs::Record::cold_of))]
     pub fn cold() -> Machine
         ensures { result ≡ cold_of }
     {
@@ -91,50 +95,28 @@ impl Machine {
                 pc: 0,
                 inte: false,
             },
-            kept: effect::kept::kept_for(Acknowledge::None, 0),
+            kept: kept_for(Acknowledge::None, 0),
             lines: Lines {
                 ready: 1,
                 hold: 0,
-                int: 8,
+                int: DOWN,
             },
             clock: 0,
             next: Position::Fetch,
         }
     }
 
-    pub(crate) fn with_next(self, next: Position) -> Machine
-        ensures { result ≡ with_next next self }
-    {
-        Machine { next: next, ..self }
-    }
-
+    #[tactic(auto, unfolding(crate::specs::Record::with_regs))]
     pub fn with_regs(self, regs: Registers) -> Machine
         ensures { result ≡ with_regs regs self }
     {
-        Machine { regs: regs, ..self }
+        Machine { regs, ..self }
     }
 
-    pub(crate) fn with_kept(self, kept: Kept) -> Machine
-        ensures { result ≡ with_kept kept self }
-    {
-        Machine { kept: kept, ..self }
-    }
-
+    #[tactic(auto, unfolding(crate::specs::Record::with_lines))]
     pub fn with_lines(self, lines: Lines) -> Machine
         ensures { result ≡ with_lines lines self }
     {
-        Machine {
-            lines: lines,
-            ..self
-        }
-    }
-
-    pub(crate) fn with_clock(self, clock: u32) -> Machine
-        ensures { result ≡ with_clock clock self }
-    {
-        Machine {
-            clock: clock,
-            ..self
-        }
+        Machine { lines, ..self }
     }
 }

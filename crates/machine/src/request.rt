@@ -7,10 +7,10 @@ use crate::look::Look;
 use crate::record::Machine;
 use effect::bus::given;
 use effect::kept::Kept;
-use effect::registers::Registers;
 
-// What a state asks of the bus. Restart is the byte that the interrupting device puts there.
-#[derive(Clone, Copy)]
+// What a state asks of the bus. Restart is the byte that the interrupting device puts there. (No Option round it: Nothing is an
+// answer like the others, and C's number 0.)
+#[derive(Clone, Copy, Debug, PartialEq, Eq)]
 pub enum Request {
     Nothing,
     Read { address: u16 },
@@ -21,50 +21,44 @@ pub enum Request {
 }
 
 // The byte that answers an acknowledge: RST of the number taken.
+#[tactic(auto, unfolding(crate::specs::Request::restart_of))]
 pub(crate) fn restart(k: Kept) -> u8
     ensures { result ≡ restart_of k }
 {
     0xC7 + 8 * (k.rst % 8)
 }
 
-// What a cycle of each kind asks of the bus; b is the byte that goes out.
-fn asked(kind: u8, code: u8, a: u16, k: Kept, r: Registers) -> Request
-    ensures { result ≡ asked_of kind a (given_of code k r) k }
-{
-    match kind {
-        0 => Request::Nothing,
-        1 => Request::Read { address: a },
-        2 => Request::Read { address: a },
-        3 => Request::Write {
-            address: a,
-            byte: given(code, k, r),
-        },
-        4 => Request::Read { address: a },
-        5 => Request::Write {
-            address: a,
-            byte: given(code, k, r),
-        },
-        6 => Request::Input { port: k.b1 },
-        7 => Request::Output {
-            port: k.b1,
-            byte: given(code, k, r),
-        },
-        8 => Request::Restart { byte: restart(k) },
-        9 => Request::Nothing,
-        10 => Request::Restart { byte: restart(k) },
-        _ => Request::Nothing,
-    }
-}
-
 impl Machine {
+    // What T3 of the cycle shown asks of the bus.
+    #[tactic(auto, unfolding(crate::specs::Request::asked_of))]
+    fn asked(self, y: Look) -> Request
+        ensures { result ≡ asked_of y.kind y.address (given_of y.code self.kept self.regs) self.kept }
+    {
+        match y.kind {
+            1 | 2 | 4 => Request::Read { address: y.address },
+            3 | 5 => Request::Write {
+                address: y.address,
+                byte: given(y.code, self.kept, self.regs),
+            },
+            6 => Request::Input { port: self.kept.b1 },
+            7 => Request::Output {
+                port: self.kept.b1,
+                byte: given(y.code, self.kept, self.regs),
+            },
+            8 | 10 => Request::Restart {
+                byte: restart(self.kept),
+            },
+            _ => Request::Nothing,
+        }
+    }
+
     // What the state asks of the bus.
+    #[tactic(auto, unfolding(crate::specs::Request::request_of))]
     pub fn request(self, y: Look) -> Request
         ensures { result ≡ request_of y self }
     {
-        let kept = self.kept;
-        let regs = self.regs;
         if y.state == 3 {
-            asked(y.kind, y.code, y.address, kept, regs)
+            self.asked(y)
         } else {
             Request::Nothing
         }

@@ -8,7 +8,7 @@ use Rattle.opcodes.specs.declared.cycle.Acknowledge.TheVariants.{None, Running, 
 
 -- the kind of a cycle that reads, by the code's first digit
 abbrev pub read_kind : ℕ → ℕ
-read_kind digit = get_or (0 ∷ 1 ∷ 2 ∷ 2 ∷ 2 ∷ 2 ∷ 2 ∷ 4 ∷ 4 ∷ 4 ∷ 4 ∷ 6 ∷ 9 ∷ 11 ∷ []) digit 0
+read_kind digit = get_or (0 ∷ 1 ∷ 2 ∷ 2 ∷ 2 ∷ 2 ∷ 2 ∷ 4 ∷ 4 ∷ 4 ∷ 4 ∷ 6 ∷ 9 ∷ 11 ∷ 0 ∷ 0 ∷ []) digit 0
 
 -- the kind of a fetch: 8 in an acknowledge from running, 10 in one from halt
 abbrev pub fetch_kind : Acknowledge → ℕ

@@ -12,7 +12,7 @@
 ghost use Rattle.std.specs.Prelude.{◌≡◌};
 ghost use Rattle.opcodes.specs.Entries.{entries};
 
-const TABLE: [u64; 256] = [
+static TABLE: [u64; 256] = [
     0x14_00_00_00_00_11, // 00 NOP         nothing
     0x14_20_20_00_00_33, // 01 LXI B,d16   BC <- address
     0x14_41_00_00_00_22, // 02 STAX B      (BC) <- A
@@ -271,9 +271,10 @@ const TABLE: [u64; 256] = [
     0x15_98_A9_00_00_33, // FF RST 7       (SP - 2) <- PC, SP <- SP - 2, PC <- 0038
 ];
 
-// The table by value. A caller that looks up often takes it once and lends it, since it is built anew at each call.
-pub fn table() -> [u64; 256]
-    ensures { result ≡ entries }
+// The table, where it stands: nothing is copied.
+#[tactic(auto, unfolding(crate::specs::Entries::entries, crate::specs::Entries::entry_of, crate::specs::Cycles::cycling))]
+pub fn table() -> &'static [u64; 256]
+    ensures { result.now ≡ entries }
 {
-    TABLE
+    &TABLE
 }

@@ -1,11 +1,11 @@
 -- One turn of the loop that calls the runs: what holds before it, and that it does one run of the definition.
 -- Assumes nothing.
 use Rattle.std.proofs.Common.{◌≡◌, ℕ, zero, suc, ◌+◌, ◌-◌, ◌%◌, ◌<◌, ◌≤◌, Bool, true, false, List, length, sym, refl, ap, ◌∙◌, arith}
+use Rattle.std.specs.Prelude.{Result, Ok, Err}
 use Rattle.laws.specs.Choice.{pick}
 use Rattle.machine.specs.declared.record.Machine.{Machine}
 use Rattle.machine.specs.Record.{cold_of, stopped_of}
-use Rattle.run.specs.declared.answer.Verdict.{Verdict}
-use Rattle.run.specs.declared.answer.Verdict.TheVariants as verdict
+use Rattle.run.specs.declared.answer.Refusal.{Refusal}
 use Rattle.run.specs.declared.answer.Ran.{Ran}
 use Rattle.run.specs.declared.answer.Answer.{Answer}
 use Rattle.run.specs.declared.answer.Answer.TheVariants.{Done, Stopped}
@@ -15,12 +15,12 @@ use Rattle.run.specs.Outcome.{start_of, verdict_of, ran_in, left_by, left_of, an
 use Rattle.run.proofs.Turn.{world}
 use Rattle.rounds.specs.Rounds.{round_of, rounds_of, Rounded}
 
--- before a turn: the runs that are left give what all of them give
-pub record Turning (x₀ i o₀ s l₀ : List ℕ) (n calls : ℕ) (m₀ : Machine) (x o l : List ℕ) (cur : Machine) (left k : ℕ) : Type 0 where
+-- before a turn, with c calls done: the runs that are left give what all of them give
+pub record Turning (x₀ i o₀ s l₀ : List ℕ) (n calls : ℕ) (m₀ : Machine) (x o l : List ℕ) (cur : Machine) (c k : ℕ) : Type 0 where
   pub memory : length x ≡ length x₀
   pub outputs : length o ≡ length o₀
   pub trace : length l ≡ length l₀
-  pub runs : rounds_of s i n left (world cur x o l k) ≡ rounds_of s i n calls (start_of m₀ x₀ o₀ l₀)
+  pub runs : rounds_of s i n (calls - c) (world cur x o l k) ≡ rounds_of s i n calls (start_of m₀ x₀ o₀ l₀)
 
 -- no run, and one run more
 module _ (s i : List ℕ) (n : ℕ) where
@@ -47,9 +47,9 @@ ran_ended : (r : Ran) → ran_of (answered_of r) ≡ r
 unfolding answered_of
 ran_ended r = ended_by (stopped_of r.machine.next) r
 
-ran_by : (v : Verdict) (after before : World) → ran_of (answer_by v after before) ≡ ran_in (left_by v after before)
-ran_by verdict.Good after before = ran_ended (ran_in after)
-ran_by (verdict.Refused reason) after before = refl
+ran_by : (v : Result (Unit {0}) Refusal) (after before : World) → ran_of (answer_by v after before) ≡ ran_in (left_by v after before)
+ran_by (Ok u) after before = ran_ended (ran_in after)
+ran_by (Err reason) after before = refl
 
 ran_left : (w : World) (i s : List ℕ) (n : ℕ) → ran_of (answer_of w i s n) ≡ ran_in (left_of w i s n)
 unfolding answer_of left_of
@@ -65,19 +65,21 @@ round_world cur x i o s l n k a r k' x' o' l' w e q =
     rw (q, left, w.memory, w.outputs, w.trace)
 
 -- so a turn leaves the result of all runs as it was
-pub turn : (cur : Machine) (x i o s l : List ℕ) (n left k : ℕ) (a : Answer) (r : Ran) (k' : ℕ) (x' o' l' : List ℕ) → 0 < left
+pub turn : (cur : Machine) (x i o s l : List ℕ) (n calls c k : ℕ) (a : Answer) (r : Ran) (k' : ℕ) (x' o' l' : List ℕ) → c < calls
     → Outcome cur x i o s l n a x' o' l' → r ≡ ran_of a → k' ≡ (k + r.states) % 18446744073709551616
-    → rounds_of s i n (left - 1) (world r.machine x' o' l' k') ≡ rounds_of s i n left (world cur x o l k)
-turn cur x i o s l n left k a r k' x' o' l' h w e q =
-    ap (rounds_of s i n (left - 1)) (round_world cur x i o s l n k a r k' x' o' l' w e q)
-    ∙ rounds_more s i n left (world cur x o l k) h
+    → rounds_of s i n (calls - (c + 1)) (world r.machine x' o' l' k') ≡ rounds_of s i n (calls - c) (world cur x o l k)
+turn cur x i o s l n calls c k a r k' x' o' l' h w e q =
+    let less : calls - (c + 1) ≡ calls - c - 1 = omega arith in
+    rw less
+    (ap (rounds_of s i n (calls - c - 1)) (round_world cur x i o s l n k a r k' x' o' l' w e q)
+    ∙ rounds_more s i n (calls - c) (world cur x o l k) (omega arith))
 
 -- and no run left is the contract
-pub ending : (x₀ i o₀ s l₀ : List ℕ) (n calls : ℕ) (m₀ : Machine) (x o l : List ℕ) (cur : Machine) (left k : ℕ) → left ≤ 0
-    → m₀ ≡ cold_of → Turning x₀ i o₀ s l₀ n calls m₀ x o l cur left k → Rounded calls n x₀ i o₀ s l₀ k x o l
-ending x₀ i o₀ s l₀ n calls m₀ x o l cur left k h cold t =
+pub ending : (x₀ i o₀ s l₀ : List ℕ) (n calls : ℕ) (m₀ : Machine) (x o l : List ℕ) (cur : Machine) (c k : ℕ) → calls ≤ c
+    → m₀ ≡ cold_of → Turning x₀ i o₀ s l₀ n calls m₀ x o l cur c k → Rounded calls n x₀ i o₀ s l₀ k x o l
+ending x₀ i o₀ s l₀ n calls m₀ x o l cur c k h cold t =
     let e : world cur x o l k ≡ rounds_of s i n calls (start_of cold_of x₀ o₀ l₀) =
-    sym (rounds_none s i n left (world cur x o l k) h)
+    sym (rounds_none s i n (calls - c) (world cur x o l k) (omega arith))
     ∙ t.runs
     ∙ ap (λ m. rounds_of s i n calls (start_of m x₀ o₀ l₀)) cold
     in

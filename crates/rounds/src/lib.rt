@@ -1,7 +1,6 @@
 // Many runs in one C function, so that tests and benchmarks call what was proved.
 #![tactic(auto)]
 
-ghost use Rattle.std.specs.Prelude.{◌≡◌};
 ghost use Rattle.rounds.specs.Rounds.{Rounded};
 
 use machine::record::Machine;
@@ -21,20 +20,14 @@ pub extern "C" fn rounds(
 ) -> u64
     ensures { Rounded calls states memory.old inputs.now outputs.old s.now trace.old result memory.new outputs.new trace.new }
 {
-    let n = states as usize;
-    let mut cur = Machine::cold();
-    let mut left = calls;
+    let states = states as usize;
+    let mut machine = Machine::cold();
     let mut done: u64 = 0;
-    while 0 < left {
-        let asked = Asked {
-            machine: cur,
-            states: n,
-        };
-        let answer = run::run(asked, memory, inputs, outputs, s, trace);
-        let after = ran(answer);
-        cur = after.machine;
-        done = std::num::wrapping_add_u64(done, after.states as u64);
-        left -= 1;
+    for _ in 0..calls {
+        let asked = Asked { machine, states };
+        let after = ran(run::run(asked, memory, inputs, outputs, s, trace));
+        machine = after.machine;
+        done = done.wrapping_add(after.states as u64);
     }
     done
 }

@@ -5,11 +5,11 @@ use mathlib.Core.Path.{◌≡◌, refl, sym, ap}
 use mathlib.Core.Bool.{Bool, true, false, false≢true}
 use mathlib.Core.List.{List}
 use native.Mathlib.Omega.{arith}
+use Rattle.std.specs.Prelude.{Ok}
 use Rattle.laws.specs.Choice.{pick}
 use Rattle.laws.proofs.Unique.{one_value}
 use Rattle.machine.specs.declared.record.Machine.{Machine}
 use Rattle.machine.specs.Record.{stopped_of}
-use Rattle.run.specs.declared.answer.Verdict.TheVariants as verdict
 use Rattle.run.specs.declared.answer.Answer.{Answer}
 use Rattle.run.specs.Run.{World, state_of, run_of}
 use Rattle.run.specs.Outcome.{start_of, verdict_of, left_of, Outcome}
@@ -53,8 +53,8 @@ onward u l = start_of u.machine u.memory u.outputs l
 
 -- a call of a states and then one of b states, over one schedule and the same input ports, leave what a run of a + b states
 -- leaves, and their states add up
-pub run_calls : (s inputs l : List ℕ) (a b : ℕ) (w : World) → verdict_of w inputs s a ≡ verdict.Good
-    → verdict_of (onward (left_of w inputs s a) l) inputs s b ≡ verdict.Good
+pub run_calls : (s inputs l : List ℕ) (a b : ℕ) (w : World) → verdict_of w inputs s a ≡ Ok tt
+    → verdict_of (onward (left_of w inputs s a) l) inputs s b ≡ Ok tt
     → Same (left_of w inputs s a).states (run_of s inputs (a + b) w) (left_of (onward (left_of w inputs s a) l) inputs s b)
 run_calls s inputs l a b w g h =
     let u = left_of w inputs s a in

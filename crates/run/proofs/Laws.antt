@@ -6,10 +6,10 @@ use mathlib.Core.Bool.{Bool, true, false}
 use mathlib.Core.List.{List}
 use native.Mathlib.Omega.{arith}
 use native.Mathlib.Nat.{zero-add, suc-add}
+use Rattle.std.specs.Prelude.{Ok, Err}
 use Rattle.laws.specs.Choice.{pick}
 use Rattle.machine.specs.Record.{stopped_of}
 use Rattle.run.specs.declared.answer.Refusal.{Refusal}
-use Rattle.run.specs.declared.answer.Verdict.TheVariants as verdict
 use Rattle.run.specs.declared.answer.Answer.TheVariants.{Refused}
 use Rattle.run.specs.Outcome.{verdict_of, left_of, ran_in, answered_of, answer_of}
 use Rattle.run.specs.Run.{World, eventful_of, state_of, run_of}
@@ -55,19 +55,19 @@ module _ (s inputs : List ℕ) where
 
 module _ (w : World) (inputs s : List ℕ) (n : ℕ) where
   -- a run that passes the tests leaves and answers what its states do
-  pub good_left : verdict_of w inputs s n ≡ verdict.Good → left_of w inputs s n ≡ run_of s inputs n w
+  pub good_left : verdict_of w inputs s n ≡ Ok tt → left_of w inputs s n ≡ run_of s inputs n w
   unfolding left_of
   good_left e = rw e
 
-  pub good_answer : verdict_of w inputs s n ≡ verdict.Good → answer_of w inputs s n ≡ answered_of (ran_in (run_of s inputs n w))
+  pub good_answer : verdict_of w inputs s n ≡ Ok tt → answer_of w inputs s n ≡ answered_of (ran_in (run_of s inputs n w))
   unfolding answer_of
   good_answer e = rw e
 
   -- and one that is refused leaves everything as it was, and no state is done
-  pub refused_left : (r : Refusal) → verdict_of w inputs s n ≡ verdict.Refused r → left_of w inputs s n ≡ w
+  pub refused_left : (r : Refusal) → verdict_of w inputs s n ≡ Err r → left_of w inputs s n ≡ w
   unfolding left_of
   refused_left r e = rw e
 
-  pub refused_answer : (r : Refusal) → verdict_of w inputs s n ≡ verdict.Refused r → answer_of w inputs s n ≡ Refused r (ran_in w)
+  pub refused_answer : (r : Refusal) → verdict_of w inputs s n ≡ Err r → answer_of w inputs s n ≡ Refused r (ran_in w)
   unfolding answer_of
   refused_answer r e = rw e

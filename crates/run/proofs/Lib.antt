@@ -3,3 +3,4 @@ pub mod Laws
 pub mod Turn
 pub mod Passed
 pub mod Calls
+pub mod Outcomes

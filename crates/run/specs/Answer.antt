@@ -1,11 +1,19 @@
 -- The paper's number and values for every answer of a run. Source: document 01, "Numbers returned". Cited by `run::answer`.
 use Rattle.std.specs.Prelude.{ℕ}
+use Rattle.schedule.specs.declared.order.Fault.{Fault}
+use Rattle.schedule.specs.declared.order.Fault.TheVariants.{Length, Value, Order}
 use Rattle.run.specs.declared.answer.Refusal.{Refusal}
 use Rattle.run.specs.declared.answer.Refusal.TheVariants.{MemorySize, PortSize, ScheduleLength, EventValue, EventOrder}
 use Rattle.run.specs.declared.answer.Refusal.TheVariants.{TooManyStates, TraceShort, IllFormed, ClockRange}
 use Rattle.run.specs.declared.answer.Ran.{Ran}
 use Rattle.run.specs.declared.answer.Answer.{Answer}
 use Rattle.run.specs.declared.answer.Answer.TheVariants.{Done, Stopped, Refused}
+
+-- the refusal of a schedule
+abbrev pub refusal_of : Fault → Refusal
+refusal_of Length = ScheduleLength
+refusal_of Value = EventValue
+refusal_of Order = EventOrder
 
 -- the paper's number of each refusal, and of each answer
 abbrev pub refusal_number : Refusal → ℕ

@@ -1,10 +1,9 @@
 -- What a run leaves and answers. Source: document 01, "Numbers returned". Cited by the public `run`.
-use Rattle.std.specs.Prelude.{ℕ, ◌≡◌, List, length}
+use Rattle.std.specs.Prelude.{ℕ, ◌≡◌, List, length, Result, Ok, Err}
 use Rattle.laws.specs.Choice.{pick}
 use Rattle.machine.specs.declared.record.Machine.{Machine}
 use Rattle.machine.specs.Record.{stopped_of}
-use Rattle.run.specs.declared.answer.Verdict.{Verdict}
-use Rattle.run.specs.declared.answer.Verdict.TheVariants as verdict
+use Rattle.run.specs.declared.answer.Refusal.{Refusal}
 use Rattle.run.specs.declared.answer.Ran.{Ran}
 use Rattle.run.specs.declared.answer.Answer.{Answer}
 use Rattle.run.specs.declared.answer.Answer.TheVariants.{Done, Stopped, Refused}
@@ -16,14 +15,14 @@ abbrev pub start_of : Machine → List ℕ → List ℕ → List ℕ → World
 start_of m memory outputs trace = record { machine = m; memory = memory; outputs = outputs; trace = trace; states = 0 }
 
 -- the verdict on a run of n states from the world w
-unfoldable pub verdict_of : World → List ℕ → List ℕ → ℕ → Verdict
+unfoldable pub verdict_of : World → List ℕ → List ℕ → ℕ → Result (Unit {0}) Refusal
 verdict_of w inputs s n =
     check_of w.machine (length w.memory) (length inputs) (length w.outputs) s (length w.trace) n
 
 -- what such a run leaves: the states, or after a refusal everything as it was
-abbrev pub left_by : Verdict → World → World → World
-left_by verdict.Good after before = after
-left_by (verdict.Refused reason) after before = before
+abbrev pub left_by : Result (Unit {0}) Refusal → World → World → World
+left_by (Ok u) after before = after
+left_by (Err reason) after before = before
 
 unfoldable pub left_of : World → List ℕ → List ℕ → ℕ → World
 left_of w inputs s n = left_by (verdict_of w inputs s n) (run_of s inputs n w) w
@@ -37,9 +36,9 @@ unfoldable pub answered_of : Ran → Answer
 answered_of ran = pick (stopped_of ran.machine.next) (Stopped ran) (Done ran)
 
 -- what a run answers
-abbrev pub answer_by : Verdict → World → World → Answer
-answer_by verdict.Good after before = answered_of (ran_in after)
-answer_by (verdict.Refused reason) after before = Refused reason (ran_in before)
+abbrev pub answer_by : Result (Unit {0}) Refusal → World → World → Answer
+answer_by (Ok u) after before = answered_of (ran_in after)
+answer_by (Err reason) after before = Refused reason (ran_in before)
 
 unfoldable pub answer_of : World → List ℕ → List ℕ → ℕ → Answer
 answer_of w inputs s n = answer_by (verdict_of w inputs s n) (run_of s inputs n w) w

@@ -1,7 +1,6 @@
 -- One state over memory, ports and trace as lists. Source: document 01, "The machine", "Cycles" and "Trace".
 -- Cited by `run::bus`, `run::state` and by a run of many.
-use Rattle.std.specs.Prelude.{ℕ, ◌+◌, ◌≤◌, ◌≡◌, List, length, get_or, set}
-use Rattle.opcodes.specs.Entries.{entries}
+use Rattle.std.specs.Prelude.{ℕ, ◌+◌, ◌≡◌, List, get_or, set}
 use Rattle.machine.specs.declared.record.Machine.{Machine}
 use Rattle.machine.specs.declared.row.Row.{Row}
 use Rattle.machine.specs.declared.request.Request.{Request}
@@ -64,15 +63,8 @@ asked m = request_of (look_of m) m
 abbrev pub heard : Machine → List ℕ → List ℕ → ℕ
 heard m memory inputs = byte_on (asked m) memory inputs
 
--- what a state needs of memory x, input ports i, output ports o, the trace l from the place at on, and the table t
-pub record Room (x i o l : List ℕ) (at : ℕ) (t : List ℕ) : Type 0 where
-  pub memory : length x ≡ 65536
-  pub inputs : length i ≡ 256
-  pub outputs : length o ≡ 256
-  pub trace : at + 8 ≤ length l
-  pub table : t ≡ entries
-
--- what the state of m leaves of them: the machine n, and x', o' and l'
+-- what the state of m leaves of memory x, output ports o and the trace l, where i are the input ports: the machine n, and x', o'
+-- and l'
 pub record After (m : Machine) (x i o l : List ℕ) (at : ℕ) (n : Machine) (x' o' l' : List ℕ) : Type 0 where
   pub machine : n ≡ step_of (heard m x i) m
   pub memory : x' ≡ memory_after (asked m) x

@@ -1,11 +1,12 @@
 // What a run answers.
 ghost use Rattle.std.specs.Prelude.{◌≡◌};
-ghost use Rattle.run.specs.Answer.{refusal_number, number_of};
+ghost use Rattle.run.specs.Answer.{refusal_of, refusal_number, number_of};
 
 use machine::record::Machine;
+use schedule::order::Fault;
 
 // Why a run is refused, in the order of the tests.
-#[derive(Clone, Copy)]
+#[derive(Clone, Copy, Debug, PartialEq, Eq)]
 pub enum Refusal {
     MemorySize,
     PortSize,
@@ -18,15 +19,39 @@ pub enum Refusal {
     ClockRange,
 }
 
-// What the tests of a run's arguments say.
-#[derive(Clone, Copy)]
-pub enum Verdict {
-    Good,
-    Refused { reason: Refusal },
+impl From<Fault> for Refusal {
+    ghost from_gives = { λ fault reason. reason ≡ refusal_of fault };
+
+    fn from(fault: Fault) -> Refusal {
+        match fault {
+            Fault::Length => Refusal::ScheduleLength,
+            Fault::Value => Refusal::EventValue,
+            Fault::Order => Refusal::EventOrder,
+        }
+    }
+}
+
+// The paper's number of a refusal.
+impl From<Refusal> for u8 {
+    ghost from_gives = { λ reason n. n ≡ refusal_number reason };
+
+    fn from(reason: Refusal) -> u8 {
+        match reason {
+            Refusal::MemorySize => 1,
+            Refusal::PortSize => 2,
+            Refusal::ScheduleLength => 3,
+            Refusal::EventValue => 4,
+            Refusal::EventOrder => 5,
+            Refusal::TooManyStates => 6,
+            Refusal::TraceShort => 7,
+            Refusal::IllFormed => 8,
+            Refusal::ClockRange => 9,
+        }
+    }
 }
 
 // The machine after a run, and the states that were done.
-#[derive(Clone, Copy)]
+#[derive(Clone, Copy, Debug, PartialEq, Eq)]
 pub struct Ran {
     pub machine: Machine,
     pub states: usize,
@@ -34,28 +59,12 @@ pub struct Ran {
 
 // Done: all states that were asked. Stopped: an undefined opcode was fetched, in this run or before. Refused: nothing was
 // done, and the machine is as it came.
-#[derive(Clone, Copy)]
+// No Result: two of the three outcomes are no error, and the theorems of `demands` name all three.
+#[derive(Clone, Copy, Debug, PartialEq, Eq)]
 pub enum Answer {
     Done { ran: Ran },
     Stopped { ran: Ran },
     Refused { reason: Refusal, ran: Ran },
-}
-
-// The paper's number of a refusal.
-fn refusal_number(reason: Refusal) -> u8
-    ensures { result ≡ refusal_number reason }
-{
-    match reason {
-        Refusal::MemorySize => 1,
-        Refusal::PortSize => 2,
-        Refusal::ScheduleLength => 3,
-        Refusal::EventValue => 4,
-        Refusal::EventOrder => 5,
-        Refusal::TooManyStates => 6,
-        Refusal::TraceShort => 7,
-        Refusal::IllFormed => 8,
-        Refusal::ClockRange => 9,
-    }
 }
 
 // The paper's number of an answer.
@@ -63,11 +72,8 @@ pub fn number(a: Answer) -> u8
     ensures { result ≡ number_of a }
 {
     match a {
-        Answer::Done { ran: _ } => 0,
-        Answer::Stopped { ran: _ } => 10,
-        Answer::Refused {
-            reason: reason,
-            ran: _,
-        } => refusal_number(reason),
+        Answer::Done { .. } => 0,
+        Answer::Stopped { .. } => 10,
+        Answer::Refused { reason, .. } => u8::from(reason),
     }
 }

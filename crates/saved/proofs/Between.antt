@@ -1,10 +1,12 @@
 -- A well-formed machine between instructions keeps nothing, and its mode says what comes next; and a machine that keeps nothing
 -- is well formed. Assumes nothing.
-use Prim.Native.Nat.{ℕ}
+use Prim.Native.Nat.{ℕ, ◌≤◌}
 use mathlib.Core.Path.{◌≡◌, refl}
 use mathlib.Core.Bool.{true, false, false≢true, not, ◌||◌}
 use mathlib.Core.Logic.{⊎_elim}
-use lib.Dec.{T, eqb, ltb, eqb→eq}
+use native.Mathlib.Omega.{arith}
+use lib.Dec.{T, eqb, eqb→eq}
+use Rattle.std.specs.Prelude.{is_some, unwrap_or}
 use Rattle.laws.proofs.Every.{and_right}
 use Rattle.laws.proofs.Tests.{true→T, or_either}
 use Rattle.opcodes.specs.Kinds.{is_none}
@@ -52,15 +54,15 @@ nothing k a n b =
       b4 = unread k.b4 five.4 i;
     }
 
--- with a fetch next and mode 0 it is no acknowledge's
-fetch_none : (a : Acknowledge) → ltb (fetch_mode a) 3 ≡ true → T (is_none a)
+-- with a fetch next and a mode it is no acknowledge's
+fetch_none : (a : Acknowledge) → is_some (fetch_mode a) ≡ true → T (is_none a)
 unfolding fetch_mode
 fetch_none None e = tt
 fetch_none Running e = true→T false e
 fetch_none Halted e = true→T false e
 
 -- between instructions no acknowledge is named and no cycle has read
-kept_at : (k : Kept) (p : Position) → ltb (mode_of k p) 3 ≡ true → T (name_of k (cycles_done p)) → T (bytes_of k (cycles_done p))
+kept_at : (k : Kept) (p : Position) → is_some (mode_of k p) ≡ true → T (name_of k (cycles_done p)) → T (bytes_of k (cycles_done p))
     → T (is_none k.ack || not (idle_of p)) → k ≡ kept_for None 0
 unfolding mode_of cycles_done idle_of
 kept_at k Fetch e n b w = nothing k (fetch_none k.ack e) n b
@@ -77,7 +79,8 @@ between_kept m w b =
     kept_at m.kept m.next b p.ready.named p.ready.bytes p.awake
 
 -- the mode says what comes next
-mode_at : (k : Kept) (p : Position) → k ≡ kept_for None 0 → ltb (mode_of k p) 3 ≡ true → position_of (mode_of k p) ≡ p
+mode_at : (k : Kept) (p : Position) → k ≡ kept_for None 0 → is_some (mode_of k p) ≡ true
+    → position_of (unwrap_or (mode_of k p) 3) ≡ p
 unfolding mode_of fetch_mode position_of kept_for
 mode_at k Fetch e b = rw e
 mode_at k (Later c s) e b = absurd (false≢true b)
@@ -86,6 +89,27 @@ mode_at k (Hold c) e b = absurd (false≢true b)
 mode_at k Halt e b = refl
 mode_at k Stop e b = refl
 
-pub between_next : (m : Machine) → well_of m ≡ true → between_of m ≡ true → position_of (mode_of m.kept m.next) ≡ m.next
+pub between_next : (m : Machine) → well_of m ≡ true → between_of m ≡ true
+    → position_of (unwrap_or (mode_of m.kept m.next) 3) ≡ m.next
 unfolding between_of
 between_next m w b = mode_at m.kept m.next (between_kept m w b) b
+
+-- and it is 0, 1 or 2
+fetch_range : (a : Acknowledge) → is_some (fetch_mode a) ≡ true → unwrap_or (fetch_mode a) 3 ≤ 2
+unfolding fetch_mode
+fetch_range None b = omega arith
+fetch_range Running b = absurd (false≢true b)
+fetch_range Halted b = absurd (false≢true b)
+
+mode_range_at : (k : Kept) (p : Position) → is_some (mode_of k p) ≡ true → unwrap_or (mode_of k p) 3 ≤ 2
+unfolding mode_of fetch_mode
+mode_range_at k Fetch b = fetch_range k.ack b
+mode_range_at k (Later c s) b = absurd (false≢true b)
+mode_range_at k (Wait c) b = absurd (false≢true b)
+mode_range_at k (Hold c) b = absurd (false≢true b)
+mode_range_at k Halt b = omega arith
+mode_range_at k Stop b = omega arith
+
+pub mode_range : (m : Machine) → between_of m ≡ true → unwrap_or (mode_of m.kept m.next) 3 ≤ 2
+unfolding between_of
+mode_range m b = mode_range_at m.kept m.next b

@@ -5,7 +5,8 @@ use mathlib.Core.Path.{◌≡◌, refl, sym, ap, ◌∙◌}
 use mathlib.Core.Bool.{true}
 use mathlib.Core.List.{List, [], ◌∷◌, ◌++◌}
 use native.Mathlib.Omega.{arith}
-use lib.Dec.{T, eqb, leb, ltb, eqb→eq, leb→le}
+use lib.Dec.{T, eqb, leb, eqb→eq, leb→le}
+use Rattle.std.specs.Prelude.{is_some, unwrap_or}
 use lib.ListN.{length, get_or, take, drop, take-append-drop}
 use lib.Seq.{ext_get_or, length-take-le, get_or-take, take-add}
 use Rattle.laws.specs.Choice.{pick}
@@ -58,10 +59,10 @@ loaded_well s r =
 pub loaded_between : (s : List ℕ) → between_of (machine_in s) ≡ true
 unfolding machine_in between_of mode_of fetch_mode kept_for
 loaded_between s =
-    at_position (λ (p : Position). ltb (mode_of (kept_for None 0) p) 3 ≡ true) refl refl refl (get_or s 13 0)
+    at_position (λ (p : Position). is_some (mode_of (kept_for None 0) p) ≡ true) refl refl refl (get_or s 13 0)
 
 -- mode and INTE come back
-mode_back : (v : ℕ) → v ≤ 2 → mode_of (kept_for None 0) (position_of v) ≡ v
+mode_back : (v : ℕ) → v ≤ 2 → unwrap_or (mode_of (kept_for None 0) (position_of v)) 3 ≡ v
 unfolding mode_of fetch_mode kept_for position_of
 mode_back zero h = refl
 mode_back (suc zero) h = refl

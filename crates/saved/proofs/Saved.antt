@@ -5,7 +5,8 @@ use mathlib.Core.Path.{◌≡◌, sym}
 use mathlib.Core.Bool.{true}
 use mathlib.Core.List.{List, ◌++◌}
 use native.Mathlib.Omega.{arith}
-use borrow.Author.Tests.{ltb-true, le-leb}
+use borrow.Author.Tests.{le-leb}
+use Rattle.std.specs.Prelude.{unwrap_or}
 use lib.Dec.{leb}
 use lib.ListN.{length, length-append}
 use lib.Seq.{take_at, drop_at}
@@ -16,13 +17,13 @@ use Rattle.machine.proofs.Parts.{parts_of}
 use Rattle.saved.specs.Header.{mode_of, between_of, header_with, header_of, saved_of}
 use Rattle.saved.specs.Fields.{lines_in, machine_in, ports_in, memory_in, in_range}
 use Rattle.saved.proofs.Back.{bit_range, registers_back, lines_back, clock_back}
-use Rattle.saved.proofs.Between.{between_kept, between_next}
+use Rattle.saved.proofs.Between.{between_kept, between_next, mode_range}
 
 module _ (m : Machine) (o x : List ℕ) where
   pub saved_machine : well_of m ≡ true → between_of m ≡ true → machine_in (saved_of m o x) ≡ m
   unfolding saved_of header_of header_with machine_in
   saved_machine w b =
-      let mode = mode_of m.kept m.next in
+      let mode = unwrap_or (mode_of m.kept m.next) 3 in
       λ i.
       record {
         regs = registers_back mode m (o ++ x) i;
@@ -33,11 +34,11 @@ module _ (m : Machine) (o x : List ℕ) where
       }
 
   pub saved_range : well_of m ≡ true → between_of m ≡ true → in_range (saved_of m o x) ≡ true
-  unfolding saved_of header_of header_with in_range lines_in between_of
+  unfolding saved_of header_of header_with in_range lines_in
   saved_range w b =
       let p = parts_of m (true→T (well_of m) w) in
-      let mode = mode_of m.kept m.next in
-      let moded = true→T (leb mode 2) (le-leb mode 2 (omega (arith, ltb-true mode 3 b))) in
+      let mode = unwrap_or (mode_of m.kept m.next) 3 in
+      let moded = true→T (leb mode 2) (le-leb mode 2 (mode_range m b)) in
       let inte = true→T _ (bit_range m.regs.inte) in
       let fixed = p.ready.fixed in
       let listed = p.ready.listed in

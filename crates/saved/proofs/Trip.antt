@@ -1,38 +1,30 @@
 -- There and back: "Loading what was saved gives the same machine and buffers", and saving what was loaded gives the same bytes.
 -- Both speak of what the contracts of `save` and `load` allow. Assumes nothing.
 use Prim.Native.Nat.{ℕ}
-use mathlib.Core.Path.{◌≡◌, refl, ap, ◌∙◌}
+use mathlib.Core.Path.{◌≡◌, refl, sym, ap, ◌∙◌}
 use mathlib.Core.List.{List}
 use native.Mathlib.Omega.{arith}
 use lib.ListN.{length, length-take, length-drop}
 use Rattle.machine.specs.declared.record.Machine.{Machine}
-use Rattle.saved.specs.declared.answer.Verdict.{Verdict}
-use Rattle.saved.specs.declared.answer.Verdict.TheVariants as verdict
-use Rattle.saved.specs.declared.answer.Saving.{Saving}
-use Rattle.saved.specs.declared.answer.Saving.TheVariants.{Saved}
-use Rattle.saved.specs.declared.answer.Loading.{Loading}
-use Rattle.saved.specs.declared.answer.Loading.TheVariants.{Loaded}
+use Rattle.std.specs.Prelude.{Result, Ok, Err}
+use Rattle.saved.specs.declared.answer.Refusal.{Refusal}
+use Rattle.saved.specs.declared.answer.NotLoaded.{NotLoaded}
 use Rattle.saved.specs.Header.{saved_of}
 use Rattle.saved.specs.Fields.{machine_in, ports_in, memory_in}
-use Rattle.saved.specs.Check.{save_verdict, load_verdict}
-use Rattle.saved.specs.Outcome.{saving_by, loading_by, Saves, Loads}
+use Rattle.saved.specs.Check.{load_verdict}
+use Rattle.saved.specs.Outcome.{loading_by, Saves, Loads}
 use Rattle.saved.proofs.Passed.{Savable, Loadable, save_passed, load_passed, savable_good, loadable_good}
 use Rattle.saved.proofs.Saved.{saved_machine, saved_range, saved_size, saved_ports, saved_memory}
 use Rattle.saved.proofs.Loaded.{Bytes, ranged, loaded_well, loaded_between, loaded_form}
 
--- an answer that is no refusal comes of a good verdict
-saved_was_good : (v : Verdict) → Saved ≡ saving_by v → v ≡ verdict.Good
-saved_was_good verdict.Good e = refl
-saved_was_good (verdict.Refused r) e = absurd (let z : ◌≡◌ {A = ℕ} 0 1 = cc in let no : ⊥ = omega arith in no)
-
--- and then it is the machine of the form
-record Good (v : Verdict) (m n : Machine) : Type 0 where
-  pub good : v ≡ verdict.Good
+-- an answer that is no refusal comes of a good verdict, and then it is the machine of the form
+record Good (v : Result (Unit {0}) Refusal) (m n : Machine) : Type 0 where
+  pub good : v ≡ Ok tt
   pub machine : m ≡ n
 
-loaded_was_good : (v : Verdict) (m n k : Machine) → Loaded m ≡ loading_by v n k → Good v m n
-loaded_was_good verdict.Good m n k e = record { good = refl; machine = cc }
-loaded_was_good (verdict.Refused r) m n k e = absurd (let z : ◌≡◌ {A = ℕ} 0 1 = cc in let no : ⊥ = omega arith in no)
+loaded_was_good : (v : Result (Unit {0}) Refusal) (m n k : Machine) → Ok m ≡ loading_by v n k → Good v m n
+loaded_was_good (Ok good) m n k e = record { good = refl; machine = cc }
+loaded_was_good (Err r) m n k e = absurd cc
 
 -- what may be saved may be loaded again, into memory of a bytes and output ports of b
 saved_loadable : (m : Machine) (x o : List ℕ) (l a b : ℕ) → Savable m (length x) (length o) l → a ≡ 65536 → b ≡ 256
@@ -58,21 +50,21 @@ loaded_savable s a b l can p =
     }
 
 -- what was saved, loaded into buffers of the right size: the machine m, memory x and output ports o
-pub saved_loads : (m n : Machine) (x o z z' x₁ o₁ x' o' : List ℕ) (r : Loading) → Saves m x o z Saved z' → length x₁ ≡ 65536
-    → length o₁ ≡ 256 → Loads n z' x₁ o₁ r x' o' → (r ≡ Loaded m) × (x' ≡ x) × (o' ≡ o)
+pub saved_loads : (m n : Machine) (x o z z' x₁ o₁ x' o' : List ℕ) (r : Result Machine NotLoaded) → Saves m x o z (Ok tt) z'
+    → length x₁ ≡ 65536 → length o₁ ≡ 256 → Loads n z' x₁ o₁ r x' o' → (r ≡ Ok m) × (x' ≡ x) × (o' ≡ o)
 saved_loads m n x o z z' x₁ o₁ x' o' r s p q l =
-    let v = saved_was_good (save_verdict m (length x) (length o) (length z)) s.answer in
+    let v = sym s.answer in
     let can = save_passed m (length x) (length o) (length z) v in
     let form : z' ≡ saved_of m o x = rw v at s.out in
     let good = loadable_good _ _ _ (saved_loadable m x o (length z) (length x₁) (length o₁) can p q) in (
-      (rw (form, good) at l.answer) ∙ ap (λ (k : Machine). Loaded k) (saved_machine m o x can.well can.between),
+      (rw (form, good) at l.answer) ∙ ap (λ (k : Machine). Ok k) (saved_machine m o x can.well can.between),
       (rw (form, good) at l.memory) ∙ saved_memory m o x can.ports,
       (rw (form, good) at l.outputs) ∙ saved_ports m o x can.ports,
     )
 
 -- what was loaded from the form s, whose elements are bytes, saved into an output of the right size: the form s
-pub loaded_saves : (m n : Machine) (s x o x' o' z z' : List ℕ) (r : Saving) → Bytes s → Loads n s x o (Loaded m) x' o'
-    → length z ≡ 65816 → Saves m x' o' z r z' → (r ≡ Saved) × (z' ≡ s)
+pub loaded_saves : (m n : Machine) (s x o x' o' z z' : List ℕ) (r : Result (Unit {0}) Refusal) → Bytes s
+    → Loads n s x o (Ok m) x' o' → length z ≡ 65816 → Saves m x' o' z r z' → (r ≡ Ok tt) × (z' ≡ s)
 loaded_saves m n s x o x' o' z z' r b l p t =
     let g = loaded_was_good (load_verdict s (length x) (length o)) m (machine_in s) n l.answer in
     let can = load_passed s (length x) (length o) g.good in

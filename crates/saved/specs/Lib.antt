@@ -1,7 +1,6 @@
 -- The modules of this folder, in reading order.
 pub mod Header
 pub mod Fields
-pub mod Put
 pub mod Answer
 pub mod Check
 pub mod Outcome

@@ -1,56 +1,32 @@
 // The 24 bytes before the ports and the memory.
 ghost use Rattle.std.specs.Prelude.{◌≡◌};
-ghost use Rattle.saved.specs.Header.{fetch_mode, mode_of, between_of, header_with, header_of};
+ghost use Rattle.saved.specs.Header.{mode_of, header_with};
 
-use alu::flags::bit;
-use effect::kept::Kept;
 use machine::record::{Machine, Position};
-use opcodes::cycle::Acknowledge;
+use opcodes::cycle::is_none;
 
-// The mode where none of the three applies.
-const NO_MODE: u8 = 3;
-
-// The mode with a fetch next: none where it is the T1 of an acknowledge.
-fn fetch_mode(ack: Acknowledge) -> u8
-    ensures { result ≡ fetch_mode ack }
+// 0 fetch next, 1 halted, 2 stopped; none inside an instruction, as with the T1 of an acknowledge next.
+#[tactic(auto, unfolding(crate::specs::Header::mode_of, crate::specs::Header::fetch_mode))]
+pub(crate) fn mode(m: Machine) -> Option<u8>
+    ensures { result ≡ mode_of m.kept m.next }
 {
-    match ack {
-        Acknowledge::None => 0,
-        Acknowledge::Running => NO_MODE,
-        Acknowledge::Halted => NO_MODE,
+    match m.next {
+        Position::Fetch if is_none(m.kept.ack) => Some(0),
+        Position::Halt => Some(1),
+        Position::Stop => Some(2),
+        _ => None,
     }
-}
-
-// 0 fetch next, 1 halted, 2 stopped.
-fn mode(k: Kept, p: Position) -> u8
-    ensures { result ≡ mode_of k p }
-{
-    let ack = k.ack;
-    match p {
-        Position::Fetch => fetch_mode(ack),
-        Position::Later { cycle: _, state: _ } => NO_MODE,
-        Position::Wait { cycle: _ } => NO_MODE,
-        Position::Hold { cycle: _ } => NO_MODE,
-        Position::Halt => 1,
-        Position::Stop => 2,
-    }
-}
-
-// Whether the machine is between instructions.
-pub(crate) fn between(m: Machine) -> bool
-    ensures { result ≡ between_of m }
-{
-    let kept = m.kept;
-    let next = m.next;
-    mode(kept, next) < NO_MODE
 }
 
 // The 24 bytes of a machine, with the byte what at 13.
+#[tactic(auto, unfolding(crate::specs::Header::header_with))]
 pub fn header_with(what: u8, m: Machine) -> [u8; 24]
     ensures { result ≡ header_with what m }
 {
     let regs = m.regs;
-    let lines = m.lines;
+    let [sp_low, sp_high] = regs.sp.to_le_bytes();
+    let [pc_low, pc_high] = regs.pc.to_le_bytes();
+    let [clock_0, clock_1, clock_2, clock_3] = m.clock.to_le_bytes();
     [
         regs.a,
         regs.f,
@@ -60,30 +36,21 @@ pub fn header_with(what: u8, m: Machine) -> [u8; 24]
         regs.e,
         regs.h,
         regs.l,
-        (regs.sp % 256) as u8,
-        (regs.sp / 256) as u8,
-        (regs.pc % 256) as u8,
-        (regs.pc / 256) as u8,
-        bit(regs.inte),
+        sp_low,
+        sp_high,
+        pc_low,
+        pc_high,
+        u8::from(regs.inte),
         what,
-        (m.clock % 256) as u8,
-        (m.clock / 256 % 256) as u8,
-        (m.clock / 65536 % 256) as u8,
-        (m.clock / 16777216) as u8,
-        lines.ready,
-        lines.hold,
-        lines.int,
+        clock_0,
+        clock_1,
+        clock_2,
+        clock_3,
+        m.lines.ready,
+        m.lines.hold,
+        m.lines.int,
         0,
         0,
         0,
     ]
-}
-
-// The header of a machine that is between instructions.
-pub(crate) fn header(m: Machine) -> [u8; 24]
-    ensures { result ≡ header_of m }
-{
-    let kept = m.kept;
-    let next = m.next;
-    header_with(mode(kept, next), m)
 }

@@ -5,6 +5,7 @@ use mathlib.Core.List.{List}
 use native.Mathlib.Omega.{arith}
 use native.Mathlib.Numerals.{add-one}
 use native.Mathlib.Nat.{add-suc, add-zero}
+use borrow.Author.Count.{below_more}
 use borrow.Author.Tests.{ne_eqb}
 use Rattle.machine.specs.declared.record.Lines.{Lines}
 use Rattle.schedule.specs.Events.{state_number_of}
@@ -42,3 +43,5 @@ module _ (s : List ℕ) (t : ℕ) (l : Lines) where
   pub levels_next : (i : ℕ) → levels_at s (i + 1) t l ≡ once_of s i t (levels_at s i t l)
   unfolding levels_at
   levels_next i = rw add-one
+
+pub ruleset cursor = (levels_before_lem, levels_rest, levels_next, below_more)

@@ -1,4 +1,4 @@
 -- The modules of this folder.
-pub mod All
+pub mod Rows
 pub mod Cursor
 pub mod Sorted

@@ -4,17 +4,18 @@ use Prim.Native.Nat.{ℕ, zero, suc, ◌+◌, ◌-◌, ◌/◌, ◌%◌, ◌≤�
 use mathlib.Core.Path.{◌≡◌, refl}
 use mathlib.Core.Bool.{Bool, true, false, ◌&&◌, false≢true}
 use mathlib.Core.List.{List}
-use mathlib.Core.Logic.{◌⊎◌, inl, inr, ⊎_elim}
+use mathlib.Core.Logic.{⊎_elim}
 use native.Mathlib.Omega.{arith}
 use native.Mathlib.Nat.{eq-or-lt_of_le, le_of_lt, le_refl, le_trans, add-zero}
 use borrow.Author.Tests.{le-ltb, ne_eqb}
 use lib.Dec.{eqb, leb}
 use lib.ListN.{length}
+use Rattle.std.specs.Prelude.{Result, Ok, Err}
 use Rattle.laws.specs.Choice.{pick}
 use Rattle.laws.proofs.Order.{lt_or_le}
 use Rattle.schedule.specs.Events.{state_number_of, listed_at, follows_of, all, ordered_of, checked_of}
-use Rattle.schedule.specs.declared.order.Checked.{Checked}
-use Rattle.schedule.specs.declared.order.Checked.TheVariants.{Good, Length, Value, Order}
+use Rattle.schedule.specs.declared.order.Fault.{Fault}
+use Rattle.schedule.specs.declared.order.Fault.TheVariants.{Length, Value, Order}
 
 both_left : (b c : Bool) → pick b c false ≡ true → b ≡ true
 both_left true c e = refl
@@ -34,22 +35,18 @@ all_at test (suc n) i j e h l =
     all_at test n (i + 1) j (both_right (test i) (all test n (i + 1)) e) (omega arith) (omega arith))
     (eq-or-lt_of_le h)
 
-no : {x : Checked} → x ≡ Good → x ≡ Length ⊎ (x ≡ Value ⊎ x ≡ Order) → ⊥
-no e o =
-    ⊎_elim (λ q. let z : ◌≡◌ {A = ℕ} 0 1 = cc in omega arith)
-    (⊎_elim (λ q. let z : ◌≡◌ {A = ℕ} 0 1 = cc in omega arith) (λ q. let z : ◌≡◌ {A = ℕ} 0 1 = cc in omega arith))
-    o
-
-good : (a b c : Bool) → pick a (pick b (pick c Good Order) Value) Length ≡ Good → (a ≡ true) × (b ≡ true) × (c ≡ true)
+good : (a b c : Bool)
+    → ◌≡◌ {A = Result (Unit {0}) Fault} (pick a (pick b (pick c (Ok tt) (Err Order)) (Err Value)) (Err Length)) (Ok tt)
+    → (a ≡ true) × (b ≡ true) × (c ≡ true)
 good true true true e = (refl, refl, refl)
-good true true false e = absurd (no e (inr (inr refl)))
-good true false c e = absurd (no e (inr (inl refl)))
-good false b c e = absurd (no e (inl refl))
+good true true false e = absurd cc
+good true false c e = absurd cc
+good false b c e = absurd cc
 
 module _ (s : List ℕ) where
   -- a good schedule has passed all three tests
   pub checked_good :
-      checked_of s ≡ Good
+      checked_of s ≡ Ok tt
       → ((eqb (length s % 6) 0 && leb (length s) 6000) ≡ true)
       × (all (listed_at s) (length s / 6) 0 ≡ true)
       × (ordered_of s (length s / 6) ≡ true)

@@ -1,92 +1,56 @@
 // The tests 3, 4 and 5 of a schedule.
-ghost use Rattle.std.specs.Prelude.{◌≡◌, ◌+◌, ◌*◌, ◌≤◌, length};
-ghost use Rattle.schedule.specs.Events.{listed_at, follows_of, all, ordered_of, checked_of};
+ghost use Rattle.std.specs.Prelude.{◌≡◌};
+ghost use Rattle.std.specs.List.{list_all, IsAllAdjacentAnswer};
+ghost use Rattle.schedule.specs.Events.{listed_at, may_follow, checked_of};
 
 use crate::event::{listed, state_number};
 
-// What the tests say: good, or which of them fails first.
-#[derive(Clone, Copy)]
-pub enum Checked {
-    Good,
+// Which of the tests fails first.
+#[derive(Clone, Copy, Debug, PartialEq, Eq)]
+pub enum Fault {
     Length,
     Value,
     Order,
 }
 
-// Whether each of the n events has a line and a value of the list.
-fn all_listed(s: &[u8], n: usize) -> bool
-    requires { 6 * n ≤ length s.now }
-    ensures { result ≡ all (listed_at s.now) n 0 }
+// Whether event e may follow event d.
+#[tactic(auto, unfolding(crate::specs::Events::may_follow))]
+fn follows(d: &[u8; 6], e: &[u8; 6]) -> bool
+    ensures { result ≡ may_follow d.now e.now }
 {
-    let mut left = n;
-    let mut i = 0;
-    while 0 < left {
-        let a = 6 * i;
-        if listed(s[a + 4], s[a + 5]) {
-            left -= 1;
-            i += 1;
-        } else {
-            return false;
-        }
-    }
-    true
+    let x = state_number(d);
+    let y = state_number(e);
+    x < y || (x == y && d[4] < e[4])
 }
 
-// Whether event i + 1 may follow event i.
-fn follows(s: &[u8], i: usize) -> bool
-    requires { 6 * i + 12 ≤ length s.now }
-    ensures { result ≡ follows_of s.now i }
+// Whether each of these events has a line and a value of the list.
+fn all_listed(events: &[[u8; 6]]) -> bool
+    ensures { result ≡ list_all (λ e. listed_at e 0) events.now }
 {
-    let j = i + 1;
-    let a = 6 * i;
-    let b = 6 * j;
-    let x = state_number(s, i);
-    let y = state_number(s, j);
-    (x < y) | ((x == y) & (s[a + 4] < s[b + 4]))
+    events.iter().all(|e| listed(e[4], e[5]))
 }
 
-// Whether the first n + 1 events follow each other.
-fn all_follow(s: &[u8], n: usize) -> bool
-    requires { 6 * n + 6 ≤ length s.now }
-    ensures { result ≡ all (follows_of s.now) n 0 }
+// Whether these events follow each other.
+fn all_follow(events: &[[u8; 6]]) -> bool
+    ensures { IsAllAdjacentAnswer (λ d e b. b ≡ may_follow d e) events.now result }
 {
-    let mut left = n;
-    let mut i = 0;
-    while 0 < left {
-        if follows(s, i) {
-            left -= 1;
-            i += 1;
-        } else {
-            return false;
-        }
-    }
-    true
-}
-
-// Whether the n events follow each other.
-fn ordered(s: &[u8], n: usize) -> bool
-    requires { 6 * n ≤ length s.now }
-    ensures { result ≡ ordered_of s.now n }
-{
-    if n == 0 { true } else { all_follow(s, n - 1) }
+    events.is_sorted_by(|d, e| follows(d, e))
 }
 
 // The tests 3, 4 and 5, in that order.
-pub fn check(s: &[u8]) -> Checked
+#[tactic(auto, unfolding(crate::specs::Events::checked_of))]
+pub fn check(s: &[u8]) -> Result<(), Fault>
     ensures { result ≡ checked_of s.now }
 {
-    let n = s.len();
-    if (n % 6 == 0) & (n <= 6000) {
-        if all_listed(s, n / 6) {
-            if ordered(s, n / 6) {
-                Checked::Good
-            } else {
-                Checked::Order
-            }
-        } else {
-            Checked::Value
-        }
-    } else {
-        Checked::Length
+    let (events, rest) = s.as_chunks::<6>();
+    if !rest.is_empty() || 1000 < events.len() {
+        return Err(Fault::Length);
     }
+    if !all_listed(events) {
+        return Err(Fault::Value);
+    }
+    if !all_follow(events) {
+        return Err(Fault::Order);
+    }
+    Ok(())
 }

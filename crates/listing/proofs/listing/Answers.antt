@@ -1,13 +1,12 @@
 -- `listing::listing`: the lines of the states before the halt, and the last line (Length, `listed`).
-use Rattle.std.proofs.Common.{arith}
-use Rattle.listing.proofs.Halt.{rows_within}
+use Rattle.std.proofs.Common.{rules, arith, refl, ◌≡◌}
+use Rattle.listing.specs.Listing.{rows_of}
 use Rattle.listing.proofs.Length.{listed}
 use Rattle.listing.proofs.listing.Goals as goal
 
-pub state_lines-at-requires : goal.state_lines-at-requires
-state_lines-at-requires c = simp c.before_halt-n.ensures (rows_within _ _)
-
 pub returns : goal.returns
 returns c =
-    listed _ _ _ _ _ _ _ _ _ (omega arith) (λ j. omega (arith, c.type_inv.trace j)) c.before_halt-n.ensures
-    c.state_lines-at.ensures c.last_line.ensures
+    let rows : c.as_chunks.result.0.now ≡ rows_of c.args.trace.now = c.as_chunks.ensures.front in
+    let halt = rw rows at c.before_halt-n.ensures in
+    let lines = rw rows at c.state_lines.ensures in
+    listed _ _ _ _ _ (omega arith) (λ j. omega (arith, c.type_inv.trace j)) refl halt lines c.last_line.ensures (search rules)

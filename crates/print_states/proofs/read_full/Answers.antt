@@ -20,7 +20,6 @@ filled a k n xs ys within fits =
     ∙ ap (λ l. l ++ take n (drop a (put_mid a k xs ys))) (take-put_mid_below a k xs ys a (le_refl a) within)
     ∙ ap (λ l. take a xs ++ l) part)
 
--- src/main.rt:56:5
 pub loop-done-preserved : goal.loop-done-preserved
 loop-done-preserved g c =
     let within = c.loop-done.invariant.1 in (

@@ -1,53 +1,39 @@
--- `run::run` meets its contract: a good verdict makes the arguments fit for the states, any other leaves all as it was.
--- Assumes nothing.
-use mathlib.Core.Path.{sym, ap, ◌∙◌}
-use native.Mathlib.Omega.{arith}
-use Rattle.run.specs.Run.{World}
-use Rattle.run.specs.Outcome.{start_of, verdict_of, answered_of}
-use Rattle.run.proofs.Laws.{good_left, good_answer, refused_left, refused_answer}
-use Rattle.run.proofs.Passed.{check_fit}
+-- `run::run` meets its contract: the arguments that pass the tests are fit for the states, and a test that fails leaves all as
+-- it was. Assumes nothing.
+use Rattle.std.proofs.Common.{sym}
+use Rattle.run.proofs.Passed.{rest_fit}
+use Rattle.run.proofs.Outcomes.{refused_memory, refused_inputs, refused_outputs, refused_rest, done}
 use Rattle.run.proofs.run.Goals as goal
 
+pub returns-in_default : goal.returns-in_default
+returns-in_default c = refused_memory _ _ _ _ _ _ _ _ c.in_default.ensures.cases c.refused.ensures
+
+pub returns-in_default-as_array : goal.returns-in_default-as_array
+returns-in_default-as_array c =
+    let memory = c.in-Some.ensures.cases in
+    refused_inputs _ _ _ _ _ _ _ _ _ memory.long memory.same c.in_default-as_array.ensures.cases
+    c.refused-in_default-as_array.ensures
+
+pub returns-in_default-as_mut_array : goal.returns-in_default-as_mut_array
+returns-in_default-as_mut_array c =
+    let memory = c.in-Some.ensures.cases in
+    refused_outputs _ _ _ _ _ _ _ _ _ memory.long memory.same c.in-Some-as_array.ensures.cases.long
+    c.in_default-as_mut_array.ensures.cases c.refused-in_default-as_mut_array.ensures
+
+pub returns-in-Err : goal.returns-in-Err
+returns-in-Err c =
+    let memory = c.in-Some.ensures.cases in
+    let outputs = c.in-Some-as_mut_array.ensures.cases in
+    refused_rest _ _ _ _ _ _ _ _ _ _ _ memory.long memory.same c.in-Some-as_array.ensures.cases.long outputs.long outputs.same
+    (sym c.in-Err.ensures) c.refused-in-Err.ensures
+
 pub go-requires : goal.go-requires
-go-requires c =
-    let fit =
-    check_fit c.args.asked.machine c.args.memory.now c.args.inputs.now c.args.outputs.now c.args.s.now c.args.trace.now
-    c.args.asked.states (sym c.in-Good.ensures)
-    in
-    record {
-      memory = fit.memory;
-      inputs = fit.inputs;
-      outputs = fit.outputs;
-      sorted = fit.sorted;
-      few = omega (arith, fit.few);
-      room = omega (arith, fit.room);
-      time = omega (arith, fit.time);
-    }
+go-requires c = rest_fit _ _ _ _ (sym c.in_default-check.ensures)
 
-pub returns-in-Good : goal.returns-in-Good
-unfolding verdict_of
-returns-in-Good c =
-    let good = sym c.in-Good.ensures in
-    let w = start_of c.args.asked.machine c.args.memory.now c.args.outputs.now c.args.trace.now in
-    let left = sym (good_left w c.args.inputs.now c.args.s.now c.args.asked.states good) in
-    record {
-      answer =
-          c.answered.ensures
-          ∙ ap answered_of c.go.ensures.ran
-          ∙ sym (good_answer w c.args.inputs.now c.args.s.now c.args.asked.states good);
-      memory = c.go.ensures.memory ∙ ap (λ (w : World). w.memory) left;
-      outputs = c.go.ensures.outputs ∙ ap (λ (w : World). w.outputs) left;
-      trace = c.go.ensures.trace ∙ ap (λ (w : World). w.trace) left;
-    }
-
-pub returns-in-Refused : goal.returns-in-Refused
-unfolding verdict_of
-returns-in-Refused c =
-    let refused = sym c.in-Refused.ensures in
-    let left = sym (refused_left _ _ _ _ _ refused) in
-    record {
-      answer = sym (refused_answer _ _ _ _ _ refused);
-      memory = ap (λ (w : World). w.memory) left;
-      outputs = ap (λ (w : World). w.outputs) left;
-      trace = ap (λ (w : World). w.trace) left;
-    }
+pub returns : goal.returns
+returns c =
+    let memory = c.in-Some.ensures.cases in
+    let inputs = c.in-Some-as_array.ensures.cases in
+    let outputs = c.in-Some-as_mut_array.ensures.cases in
+    done _ _ _ _ _ _ _ _ _ _ _ _ _ _ _ memory.long memory.same inputs.long inputs.same outputs.long outputs.same
+    (sym c.in_default-check.ensures) c.go.ensures c.answered.ensures

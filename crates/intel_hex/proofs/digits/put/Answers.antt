@@ -1,20 +1,14 @@
--- `intel_hex::digits::put`: a turn of the loop puts a byte more, and its end leaves none (Scan).
-use Rattle.std.proofs.Common.{◌*◌, refl, sym, ◌∙◌, arith}
-use Rattle.std.proofs.Math.ListN.{length-set}
-use Rattle.intel_hex.proofs.Scan.{pair_in, put_start, put_turn, put_end}
+-- `intel_hex::digits::put`: a turn of the loop puts a byte more (Scan).
+use Rattle.std.proofs.Common.{arith, ◌∙◌}
+use Rattle.std.proofs.lemmas.Grind.{common_steps}
+use Rattle.intel_hex.proofs.Scan.{hex_left, bytes_pair, sets_more}
 use Rattle.intel_hex.proofs.digits.put.Goals as goal
-
-pub loop-i-init : goal.loop-i-init
-loop-i-init c = (refl, put_start c.args.s.now c.args.memory.now c.args.address c.args.n)
-
-pub byte_at-requires : goal.byte_at-requires
-byte_at-requires c = pair_in c.args.s.now (2 * c.loop-i.i) c.requires.0 (omega (arith, c.requires.1, c.loop-i-test.true))
 
 pub loop-i-preserved : goal.loop-i-preserved
 loop-i-preserved c =
-    let turn = put_turn c.args.s.now c.loop-i.memory c.args.address c.loop-i.i c.args.n c.loop-i-test.true c.requires.1 in
-    (rw length-set c.loop-i.invariant.0, rw c.byte_at.ensures (turn ∙ c.loop-i.invariant.1))
-
-pub returns : goal.returns
-returns c =
-    sym (put_end c.args.s.now c.loop-i.memory c.args.address c.loop-i.i c.args.n c.loop-i-test.false) ∙ c.loop-i.invariant.1
+    let s = c.in-Some.ensures.steps in
+    let size = c.loop-i.invariant.0 in
+    let split = s.0.1.0 in
+    let two = s.0.1.1 ∙ size in
+    let more = bytes_pair _ _ _ split two in
+    (s.0.0 ∙ size, hex_left _ _ _ split c.loop-i.invariant.1, grind (arith, common_steps), grind (arith, common_steps), grind (arith, common_steps, more, sets_more, c.byte_at.ensures))

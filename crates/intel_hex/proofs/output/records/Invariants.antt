@@ -1,15 +1,16 @@
--- `intel_hex::output::records`: the loop keeps the whole text (Chunks, `chunk_turn`); the measure is the bytes that are left.
-use Rattle.std.proofs.Common.{◌≡◌, ◌+◌, length}
-use Rattle.text.specs.Text.{text_of, written_of}
-use Rattle.intel_hex.specs.Write.{records_for, records_of, range_of}
+-- `intel_hex::output::records`: the loop has written the records of the parts so far (Chunks).
+use Rattle.std.proofs.Common.{◌≡◌, ◌+◌, ◌*◌, ◌<◌, length, drop}
+use Rattle.std.specs.Iterator.Adapters.{enumerate_source, enumerate_count}
+use Rattle.std.specs.Slice.Iter.{chunks_rest, chunks_size}
+use Rattle.text.specs.Writer.{Adds}
+use Rattle.intel_hex.specs.Write.{records_of}
 use Rattle.intel_hex.proofs.output.records.Given as goal
 
-abbrev pub invariant-loop-left : goal.invariant-loop-left
-invariant-loop-left l =
-    (l.address + l.left ≡ l.start + l.n)
-    × (length l.out ≡ length l.initial.out)
-    × (written_of (records_of (records_for l.left) l.address (range_of l.memory l.address l.left)) (text_of l.out l.at)
-    ≡ written_of (records_of (records_for l.n) l.start (range_of l.memory l.start l.n)) (text_of l.initial.out 0))
-
-abbrev pub decreases-loop-left : goal.decreases-loop-left
-decreases-loop-left l = l.left
+abbrev pub invariant-loop-i : goal.invariant-loop-i
+invariant-loop-i l =
+    let left = enumerate_source l.i-iterator in
+    let done = enumerate_count l.i-iterator in
+    (chunks_size left ≡ 16)
+    × (chunks_rest left ≡ drop (16 * done) l.range)
+    × (16 * done < length l.range + 16)
+    × Adds (records_of done l.start l.range) l.initial.text l.text

@@ -1,11 +1,10 @@
--- `intel_hex::output::sum`: a turn of the loop adds a byte more, and its end leaves none (Turns).
-use Rattle.std.proofs.Common.{◌∙◌, arith}
-use Rattle.intel_hex.proofs.Turns.{sum_turn, sum_end}
+-- `intel_hex::output::sum`: a fold (Turns).
+use Rattle.std.proofs.Common.{◌≡◌, ◌+◌, ◌%◌, ◌∙◌, rules}
+use Rattle.std.specs.List.{fold}
+use Rattle.intel_hex.proofs.Turns.{sum_fold}
 use Rattle.intel_hex.proofs.output.sum.Goals as goal
 
-pub loop-i-preserved : goal.loop-i-preserved
-loop-i-preserved c =
-    (omega arith, omega arith, sum_turn _ _ _ _ c.loop-i-test.true c.wide.ensures.0 ∙ c.loop-i.invariant.2)
-
 pub returns : goal.returns
-returns c = sum_end _ _ _ c.loop-i-test.false c.loop-i.invariant.1 ∙ c.loop-i.invariant.2
+returns c =
+    let e : c.fold.result ≡ fold (λ a b. (a + b) % 256) 0 c.args.bytes.now = search rules in
+    e ∙ sum_fold c.args.bytes.now
