@@ -1,26 +1,24 @@
 -- From call to call: the record that a call leaves holds the machine that the definition leaves, so that the next call goes on
 -- with it. Assumes nothing.
-use Prim.Native.Nat.{ℕ, ◌+◌, ◌*◌}
+use Prim.Native.Nat.{ℕ}
 use mathlib.Core.Path.{◌≡◌, refl, sym, ap, ◌∙◌}
-use mathlib.Core.Bool.{Bool, true, false, false≢true, ◌&&◌}
+use mathlib.Core.Bool.{Bool, true, false, false≢true}
 use mathlib.Core.List.{List}
 use native.Mathlib.Omega.{arith}
-use lib.Dec.{eqb, leb}
+use lib.Dec.{eqb}
 use lib.ListN.{length}
 use borrow.Author.Tests.{eqb-true}
 use Rattle.laws.specs.Choice.{pick}
-use Rattle.machine.specs.declared.record.Machine.{Machine}
 use Rattle.machine.specs.Record.{cold_of, stopped_of}
 use Rattle.machine.specs.Well.{well_of}
 use Rattle.machine.specs.Step.{step_of}
 use Rattle.run.specs.declared.answer.Refusal.{Refusal}
-use Rattle.run.specs.declared.answer.Refusal.TheVariants.{MemorySize, PortSize, TooManyStates, TraceShort, IllFormed, ClockRange}
 use Rattle.std.specs.Prelude.{Result, Ok, Err}
 use Rattle.run.specs.declared.answer.Ran.{Ran}
 use Rattle.run.specs.declared.answer.Answer.TheVariants.{Done, Stopped}
-use Rattle.run.specs.Check.{and_then, unless, schedule_verdict, states_verdict, check_of}
 use Rattle.run.specs.Run.{World, run_of}
 use Rattle.run.specs.Outcome.{start_of, verdict_of, left_by, left_of, ran_in, answered_of, answer_by, answer_of}
+use Rattle.run.proofs.Passed.{check_well}
 use Rattle.capi.specs.Flat.{record_with}
 use Rattle.capi.specs.Handed.{handed_of}
 use Rattle.capi.specs.Numbers.{step_number}
@@ -51,30 +49,6 @@ step_left z v r z' c e =
     ap handed_of left
     ∙ handed_record z (step_of v (handed_of z)) (well_size z (step_well (well_of (handed_of z)) _ none))
 
--- of tests one after the other that are good, each is: the sixth is 8's
-then_good : (a b : Result (Unit {0}) Refusal) → and_then a b ≡ Ok tt → b ≡ Ok tt
-then_good (Ok good) b e = e
-then_good (Err r) b e = absurd cc
-
-first_good : (a b : Result (Unit {0}) Refusal) → and_then a b ≡ Ok tt → a ≡ Ok tt
-first_good (Ok good) b e = refl
-first_good (Err r) b e = absurd cc
-
-unless_good : (b : Bool) (r : Refusal) → unless b r ≡ Ok tt → b ≡ true
-unless_good true r e = refl
-unless_good false r e = absurd cc
-
--- so a run that is not refused has a well-formed machine
-good_well : (m : Machine) (x i o : ℕ) (s : List ℕ) (l n : ℕ) → check_of m x i o s l n ≡ Ok tt → well_of m ≡ true
-unfolding check_of states_verdict
-good_well m x i o s l n e =
-    unless_good (well_of m) IllFormed
-    (first_good _ (unless (leb (m.clock + n) 4294967295) ClockRange)
-    (then_good (unless (leb (8 * n) l) TraceShort) _
-    (then_good (unless (leb n 8192) TooManyStates) _
-    (then_good (schedule_verdict s) _
-    (then_good (unless (eqb i 256 && eqb o 256) PortSize) _ (then_good (unless (eqb x 65536) MemorySize) _ e))))))
-
 -- done or stopped, the machine goes into the record
 ended_record : (b : Bool) (ran : Ran) (z : List ℕ) → record_by (pick b (Stopped ran) (Done ran)) z ≡ record_with z ran.machine
 ended_record true ran z = refl
@@ -94,4 +68,4 @@ unfolding answer_of left_of verdict_of
 run_left z n x i o s l r z' x' o' l' c =
     let w = start_of (handed_of z) x o l in
     ap handed_of c.machine
-    ∙ left_by_lem (verdict_of w i s n) (run_of s i n w) w z (λ e. well_size z (good_well _ _ _ _ _ _ _ e)) refl
+    ∙ left_by_lem (verdict_of w i s n) (run_of s i n w) w z (λ e. well_size z (check_well _ _ _ _ _ _ _ e)) refl

@@ -2,58 +2,22 @@
 use Rattle.std.specs.Prelude.{Result, Ok, Err}
 use Prim.Native.Nat.{ℕ, ◌+◌, ◌*◌, ◌≤◌}
 use mathlib.Core.Path.{◌≡◌, refl}
-use mathlib.Core.Bool.{Bool, true, false, ◌&&◌}
+use mathlib.Core.Bool.{Bool, true, false}
 use mathlib.Core.List.{List}
 use native.Mathlib.Omega.{arith}
-use lib.Dec.{T, eqb, leb}
+use lib.Dec.{T}
 use lib.ListN.{length}
 use Rattle.laws.specs.Choice.{pick}
 use Rattle.laws.proofs.Tests.{true→T}
 use Rattle.machine.specs.Record.{stopped_of}
 use Rattle.machine.specs.Well.{well_of}
 use Rattle.run.specs.declared.answer.Refusal.{Refusal}
-use Rattle.run.specs.declared.answer.Refusal.TheVariants.{MemorySize, PortSize, TooManyStates, TraceShort, IllFormed}
-use Rattle.run.specs.declared.answer.Refusal.TheVariants.{ClockRange}
 use Rattle.run.specs.declared.answer.Ran.{Ran}
 use Rattle.run.specs.declared.answer.Answer.{Answer}
 use Rattle.run.specs.declared.answer.Answer.TheVariants.{Done, Stopped, Refused}
-use Rattle.run.specs.Check.{and_then, unless, schedule_verdict, states_verdict, check_of}
 use Rattle.run.specs.Run.{World, run_of}
 use Rattle.run.specs.Outcome.{verdict_of, ran_in, answered_of, answer_by, answer_of}
-use Rattle.run.proofs.Passed.{check_fit}
-
--- a good verdict on tests one after the other
-right_good : (a b : Result (Unit {0}) Refusal) → and_then a b ≡ Ok tt → b ≡ Ok tt
-right_good (Ok u) b e = e
-right_good (Err r) b e = absurd (let z : ◌≡◌ {A = ℕ} 0 1 = cc in let no : ⊥ = omega arith in no)
-
-left_good : (a b : Result (Unit {0}) Refusal) → and_then a b ≡ Ok tt → a ≡ Ok tt
-left_good (Ok u) b e = refl
-left_good (Err r) b e = e
-
-holds_good : (t : Bool) (r : Refusal) → unless t r ≡ Ok tt → t ≡ true
-holds_good true r e = refl
-holds_good false r e = absurd (let z : ◌≡◌ {A = ℕ} 0 1 = cc in let no : ⊥ = omega arith in no)
-
--- the test of the record, among the others
-record_good : (a b : Bool) (v : Result (Unit {0}) Refusal) (c d e f : Bool)
-    → and_then (unless a MemorySize)
-    (and_then (unless b PortSize)
-    (and_then v
-    (and_then (unless c TooManyStates)
-    (and_then (unless d TraceShort) (and_then (unless e IllFormed) (unless f ClockRange))))))
-    ≡ Ok tt
-    → e ≡ true
-record_good a b v c d e f q =
-    let v6 = and_then (unless e IllFormed) (unless f ClockRange) in
-    let v5 = and_then (unless d TraceShort) v6 in
-    let v4 = and_then (unless c TooManyStates) v5 in
-    let v3 = and_then v v4 in
-    let v2 = and_then (unless b PortSize) v3 in
-    let q2 = right_good (unless a MemorySize) v2 q in
-    let q4 = right_good v v4 (right_good (unless b PortSize) v3 q2) in
-    let q6 = right_good (unless d TraceShort) v6 (right_good (unless c TooManyStates) v5 q4) in
-    holds_good e IllFormed (left_good (unless e IllFormed) (unless f ClockRange) q6)
+use Rattle.run.proofs.Passed.{check_fit, check_well}
 
 -- a run that answers with 0 or 10 has passed the tests, has not stopped or has, and answers what its states did
 pub record Good (stopped : Bool) (w : World) (inputs s : List ℕ) (n : ℕ) (r : Ran) : Type 0 where
@@ -99,8 +63,5 @@ module _ (w : World) (inputs s : List ℕ) (n : ℕ) where
   good_room e = (check_fit w.machine w.memory inputs w.outputs s w.trace n e).room
 
   pub good_well : verdict_of w inputs s n ≡ Ok tt → T (well_of w.machine)
-  unfolding verdict_of check_of states_verdict
-  good_well e =
-      true→T (well_of w.machine)
-      (record_good (eqb (length w.memory) 65536) (eqb (length inputs) 256 && eqb (length w.outputs) 256) (schedule_verdict s)
-      (leb n 8192) (leb (8 * n) (length w.trace)) (well_of w.machine) (leb (w.machine.clock + n) 4294967295) e)
+  unfolding verdict_of
+  good_well e = true→T (well_of w.machine) (check_well w.machine _ _ _ s _ n e)

@@ -1,4 +1,5 @@
 -- The modules of this folder.
+pub mod Chunks
 pub mod Every
 pub mod Listed
 pub mod Order

@@ -1,21 +1,15 @@
 -- The states before the first halt state have rows in the trace.
 -- Assumes nothing.
-use Prim.Native.Nat.{ℕ, zero, suc, ◌≤◌}
-use mathlib.Core.Path.{◌≡◌, refl, ap}
+use Prim.Native.Nat.{ℕ, ◌≤◌}
+use mathlib.Core.Path.{◌≡◌}
 use mathlib.Core.List.{List}
 use native.Mathlib.Omega.{arith}
 use native.Mathlib.Nat.{min-le_right}
-use lib.ListN.{length, take, drop, get_or}
+use lib.ListN.{length, take, get_or}
 use Rattle.std.proofs.lemmas.List.{length-take, length-take-le}
 use Rattle.std.proofs.lemmas.List.Sums.{prefix_len-le-length}
 use Rattle.std.specs.Prelude.{not, ◌==◌}
-use Rattle.std.specs.Simd.{first_chunks}
 use Rattle.listing.specs.Listing.{before_halt_of}
-
--- a trace of l bytes has length l / 8 rows
-pub rows_count : (k : ℕ) (l : List ℕ) → length (first_chunks 8 k l) ≡ k
-rows_count zero l = refl
-rows_count (suc k) l = ap (λ n. suc n) (rows_count k (drop 8 l))
 
 pub rows_within : (rows : List (List ℕ)) (n : ℕ) → before_halt_of rows n ≤ length rows
 unfolding before_halt_of

@@ -19,7 +19,8 @@ use Rattle.std.specs.Simd.{first_chunks}
 use Rattle.text.specs.Bytes.{Bytes}
 use Rattle.text.proofs.Bytes.{bytes_take, bytes_drop}
 use Rattle.text.proofs.Decimal.{decimal_small, decimal_large}
-use Rattle.listing.proofs.Halt.{rows_count, rows_within}
+use Rattle.laws.proofs.Chunks.{chunks_length}
+use Rattle.listing.proofs.Halt.{rows_within}
 use Rattle.text.specs.Writer.{Adds}
 use Rattle.text.proofs.Writer.{writes_both}
 use Rattle.text.proofs.Room.{whole}
@@ -86,7 +87,7 @@ listing_length l n a pc h b =
     let k = before_halt_of (rows_of l) n in
     let few = rows_within (rows_of l) n in
     rw length-append
-    (omega (arith, rows_length l 0 (length l / 8) k (omega arith) b, last_length a pc k (omega (arith, few, rows_count (length l / 8) l))))
+    (omega (arith, rows_length l 0 (length l / 8) k (omega arith) b, last_length a pc k (omega (arith, few, chunks_length 8 (length l / 8) l))))
 
 -- the lines of the states before the halt and the last line, one after the other, are the listing
 pub listed : (l : List ℕ) (n a pc k : ℕ) {t u v : Text} {out' : List ℕ} → length l < 18446744073709551616 → Bytes l → t.at ≡ 0

@@ -6,14 +6,15 @@ use mathlib.Core.Bool.{Bool, true, false}
 use mathlib.Core.List.{List, [], ◌∷◌, ◌++◌}
 use native.Mathlib.Omega.{arith}
 use lib.ListN.{length, get_or, take, drop}
-use lib.Seq.{get_or-drop, drop-drop}
+use lib.Seq.{get_or-drop}
 use lib.Dec.{eqb}
 use Rattle.std.specs.Prelude.{not, ◌==◌}
 use Rattle.std.specs.List.{position_or_len}
 use Rattle.std.specs.Simd.{first_chunks}
 use Rattle.std.proofs.lemmas.List.{get_or-take}
 use native.Mathlib.Nat.{zero-add, zero-min, min-zero}
-use Rattle.listing.proofs.Halt.{rows_within, rows_count}
+use Rattle.laws.proofs.Chunks.{chunks_length, chunk_further}
+use Rattle.listing.proofs.Halt.{rows_within}
 use mathlib.Core.Bool.{cond}
 use Rattle.laws.specs.Choice.{pick}
 use Rattle.listing.specs.Lines.{state_line_of, last_line_of}
@@ -36,12 +37,6 @@ before_at l n = halt_from l 0 (min n (length l / 8))
 unfoldable pub listing_at : List ℕ → ℕ → ℕ → ℕ → List ℕ
 listing_at l n a pc = lines_from l 0 (before_at l n) ++ last_line_of a pc (before_at l n)
 
--- eight bytes further
-further : (i : ℕ) (l : List ℕ) → drop 8 (drop (8 * i) l) ≡ drop (8 * (i + 1)) l
-further i l =
-    let e : 8 * i + 8 ≡ 8 * (i + 1) = omega arith in
-    drop-drop 8 (8 * i) l ∙ ap (λ n. drop n l) e
-
 zero_more : (i : ℕ) → i ≡ i + 0
 zero_more i = omega arith
 
@@ -59,7 +54,7 @@ halts l i (suc k) =
     let first : get_or (take 8 (drop (8 * i) l)) 0 0 ≡ get_or l (8 * i) 0 =
     get_or-take 8 (drop (8 * i) l) 0 0 (omega arith) ∙ get_or-drop (8 * i) l 0 0 ∙ ap (λ n. get_or l n 0) (sym (zero_more (8 * i)))
     in
-    rw (further i l, first) (choose (eqb (get_or l (8 * i) 0) 8) i _ _ (halts l (i + 1) k))
+    rw (chunk_further 8 i l, first) (choose (eqb (get_or l (8 * i) 0) 8) i _ _ (halts l (i + 1) k))
 
 same_row : (i : ℕ) (m : List ℕ) → state_line_of i (take 8 m) ≡ state_line_of i m
 unfolding state_line_of
@@ -69,7 +64,7 @@ same_row i m =
 lines : (l : List ℕ) (i k : ℕ) → lines_from l i k ≡ state_lines_of i (first_chunks 8 k (drop (8 * i) l))
 unfolding lines_from state_lines_of
 lines l i zero = refl
-lines l i (suc k) = rw (same_row i (drop (8 * i) l), further i l, lines l (i + 1) k) refl
+lines l i (suc k) = rw (same_row i (drop (8 * i) l), chunk_further 8 i l, lines l (i + 1) k) refl
 
 least : (n k : ℕ) → min (suc n) (suc k) ≡ suc (min n k)
 least n k = omega arith
@@ -88,6 +83,6 @@ pub same_listing : (l : List ℕ) (n a pc : ℕ) → listing_at l n a pc ≡ lis
 unfolding listing_at listing_of
 same_listing l n a pc =
     let k = before_halt_of (rows_of l) n in
-    let within : k ≤ length l / 8 = omega (arith, rows_within (rows_of l) n, rows_count (length l / 8) l) in
+    let within : k ≤ length l / 8 = omega (arith, rows_within (rows_of l) n, chunks_length 8 (length l / 8) l) in
     let fewest : min k (length l / 8) ≡ k = omega (arith, within) in
     rw (before l n, few k (length l / 8) l, fewest) (ap (λ s. s ++ last_line_of a pc k) (lines l 0 k))

@@ -38,15 +38,22 @@ schedule_good : (c : Result (Unit {0}) Fault) → of_schedule c ≡ Ok tt → c 
 schedule_good (Ok u) e = refl
 schedule_good (Err fault) e = absurd cc
 
+-- of the tests 3 to 9 that are good together, each is: k is the length of the trace
+rest_good : (m : Machine) (s : List ℕ) (k n : ℕ) → and_then (schedule_verdict s) (states_verdict m k n) ≡ Ok tt
+    → (of_schedule (checked_of s) ≡ Ok tt)
+    × (leb n 8192 ≡ true)
+    × (leb (8 * n) k ≡ true)
+    × (well_of m ≡ true)
+    × (leb (m.clock + n) 4294967295 ≡ true)
+unfolding schedule_verdict states_verdict
+rest_good m s k n q =
+    all_good (of_schedule (checked_of s)) (leb n 8192) (leb (8 * n) k) (well_of m) (leb (m.clock + n) 4294967295) q
+
 -- the arguments of a run that passes the tests 3 to 9 are fit for its states
 pub rest_fit : (m : Machine) (s l : List ℕ) (n : ℕ) → and_then (schedule_verdict s) (states_verdict m (length l) n) ≡ Ok tt
     → Fit m s l n
-unfolding schedule_verdict states_verdict
 rest_fit m s l n q =
-    let good =
-    all_good (of_schedule (checked_of s)) (leb n 8192) (leb (8 * n) (length l)) (well_of m)
-    (leb (m.clock + n) 4294967295) q
-    in
+    let good = rest_good m s (length l) n q in
     record {
       sorted = ordered_sorted s (length s / 6) (checked_good s (schedule_good (checked_of s) good.0)).2;
       few = leb-true n 8192 good.1;
@@ -60,7 +67,12 @@ sizes_good true true v q = (refl, refl, q)
 sizes_good true false v q = absurd cc
 sizes_good false b v q = absurd cc
 
--- so are those of one that passes all; and memory and ports then have their sizes
+-- the machine of a run that passes all is well formed
+pub check_well : (m : Machine) (x i o : ℕ) (s : List ℕ) (k n : ℕ) → check_of m x i o s k n ≡ Ok tt → well_of m ≡ true
+unfolding check_of
+check_well m x i o s k n q = (rest_good m s k n (sizes_good (eqb x 65536) (eqb i 256 && eqb o 256) _ q).2).3
+
+-- its arguments are fit, and memory and ports have their sizes
 module _ (m : Machine) (x i o s l : List ℕ) (n : ℕ)
     (q : check_of m (length x) (length i) (length o) s (length l) n ≡ Ok tt) where
   good : (eqb (length x) 65536 ≡ true) × ((eqb (length i) 256 && eqb (length o) 256) ≡ true)

@@ -12,7 +12,6 @@ use Rattle.machine.specs.Record.{with_lines, stopped_of}
 use Rattle.machine.proofs.Laws.{clock_rises}
 use Rattle.schedule.specs.Events.{state_number_of}
 use Rattle.schedule.specs.Levels.{Gives}
-use Rattle.schedule.proofs.Cursor.{levels_before_lem}
 use Rattle.run.specs.State.{After}
 use Rattle.run.specs.Run.{World, eventful_of, state_of, run_of}
 use Rattle.run.specs.Outcome.{start_of, ran_in}

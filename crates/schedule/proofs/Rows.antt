@@ -6,8 +6,8 @@ use mathlib.Core.List.{List, []}
 use native.Mathlib.Omega.{arith}
 use borrow.Author.Tests.{le-leb}
 use lib.Dec.{eqb, leb}
-use lib.ListN.{length, get_or, take, drop}
-use lib.Seq.{get_or-drop, drop-drop}
+use lib.ListN.{get_or, take, drop}
+use lib.Seq.{get_or-drop}
 use Rattle.std.specs.Simd.{first_chunks}
 use Rattle.std.proofs.lemmas.List.{get_or-take}
 use Rattle.machine.specs.declared.record.Lines.{Lines}
@@ -15,16 +15,10 @@ use mathlib.Core.Logic.{⊎_elim}
 use native.Mathlib.Nat.{eq-or-lt_of_le}
 use Rattle.std.specs.List.{list_all, IsAllAdjacentAnswer}
 use Rattle.laws.specs.Choice.{pick}
+use Rattle.laws.proofs.Chunks.{chunks_length, chunk_further}
+use Rattle.laws.proofs.Tests.{and_pick}
 use Rattle.schedule.specs.Events.{state_number_of, listed_at, follows_of, may_follow, all, ordered_of}
 use Rattle.schedule.specs.Levels.{once_of}
-
-and_pick : (b c d : Bool) → c ≡ d → (b && c) ≡ pick b d false
-and_pick true c d e = e
-and_pick false c d e = refl
-
-length_rows : (k : ℕ) (s : List ℕ) → length (first_chunks 6 k s) ≡ k
-length_rows zero s = refl
-length_rows (suc k) s = ap (λ n. suc n) (length_rows k (drop 6 s))
 
 row_byte : (k i j at : ℕ) (s : List ℕ) → i < k → j < 6 → at ≡ 6 * i + j → get_or (get_or (first_chunks 6 k s) i []) j 0 ≡ get_or s at 0
 row_byte zero i j at s h b e = absurd (let no : ⊥ = omega arith in no)
@@ -79,15 +73,10 @@ module _ (s : List ℕ) (k : ℕ) where
   unfolding ordered_of
   rows_ordered true h =
       sym (all_true (follows_of s) (k - 1) 0
-      (λ j p q. sym (row_follows j (omega arith)) ∙ sym (h j [] (omega (arith, length_rows k s, q)))))
+      (λ j p q. sym (row_follows j (omega arith)) ∙ sym (h j [] (omega (arith, chunks_length 6 k s, q)))))
   rows_ordered false h =
-      let l : h.0 + 1 < k = omega (arith, length_rows k s, h.1) in
+      let l : h.0 + 1 < k = omega (arith, chunks_length 6 k s, h.1) in
       sym (all_false (follows_of s) (k - 1) 0 h.0 (omega arith) (omega arith) (sym (row_follows h.0 l) ∙ sym (h.2 [])))
-
-further : (i : ℕ) (s : List ℕ) → drop 6 (drop (6 * i) s) ≡ drop (6 * (i + 1)) s
-further i s =
-    let e : 6 * i + 6 ≡ 6 * (i + 1) = omega arith in
-    drop-drop 6 (6 * i) s ∙ ap (λ n. drop n s) e
 
 lists : (s : List ℕ) (i k : ℕ) → list_all (λ e. listed_at e 0) (first_chunks 6 k (drop (6 * i) s)) ≡ all (listed_at s) k i
 unfolding all
@@ -99,7 +88,7 @@ lists s i (suc k) =
     let value : get_or (take 6 (drop (6 * i) s)) 5 0 ≡ get_or s (6 * i + 5) 0 =
     get_or-take 6 (drop (6 * i) s) 5 0 (omega arith) ∙ get_or-drop (6 * i) s 5 0
     in
-    rw (line, value, further i s) (and_pick (listed_at s i) _ _ (lists s (i + 1) k))
+    rw (line, value, chunk_further 6 i s) (and_pick (listed_at s i) _ _ (lists s (i + 1) k))
 
 -- and they are of the list
 pub rows_listed : (s : List ℕ) (k : ℕ) → list_all (λ e. listed_at e 0) (first_chunks 6 k s) ≡ all (listed_at s) k 0
