@@ -34,7 +34,7 @@ static ROWS: [u64; 4] = [
     0x9669_6996_6996_9669,
 ];
 
-// Whether the number of ones in the byte is even. (Read from a table, which change request W4 takes out.)
+// Whether the number of ones in the byte is even.
 #[tactic(auto, using(crate::proofs::Parity::parity_read))]
 pub(crate) fn parity(v: u8) -> bool
     ensures { result ≡ parity_of v }

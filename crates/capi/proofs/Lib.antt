@@ -6,3 +6,4 @@ pub mod Back
 pub mod Onward
 pub mod Trip
 pub mod Unique
+pub mod Put

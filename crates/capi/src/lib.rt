@@ -13,7 +13,7 @@ use crate::number::{DONE, ILL_FORMED, beside, request_number, run_number, step_n
 use intel_hex::answer::{reading_line, reading_number, writing_length, writing_number};
 use machine::record::Machine;
 use run::Asked;
-use saved::answer::saving_number;
+use saved::answer::{loading_number, saving_number};
 
 mod flat;
 mod handed;
@@ -101,13 +101,11 @@ pub extern "C" fn fez_load(z: &mut [u8], s: &[u8], memory: &mut [u8], outputs: &
     if z.len() != 64 {
         return ILL_FORMED;
     }
-    match saved::load(Machine::cold(), s, memory, outputs) {
-        Ok(m) => {
-            record_with(z, m);
-            DONE
-        }
-        Err(refused) => u8::from(refused.reason),
+    let loading = saved::load(Machine::cold(), s, memory, outputs);
+    if let Ok(m) = loading {
+        record_with(z, m);
     }
+    loading_number(loading)
 }
 
 // The records of an Intel HEX text go into 65,536 bytes of memory: 0, or a refusal that changes nothing; and 256 times the line

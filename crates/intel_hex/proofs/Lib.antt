@@ -1,6 +1,7 @@
 -- The modules of this folder.
 pub mod Pieces
 pub mod Scan
+pub mod First
 pub mod Lined
 pub mod Formed
 pub mod Landed

@@ -31,7 +31,7 @@ module _ (x : List ℕ) (start n : ℕ) (z : List ℕ) where
   no_memory h = refused MemorySize (rw (ne_eqb _ _ h))
 
   module _ (memory : length x ≡ 65536) where
-    past_end : 65536 < start + n → Writes x start n z (Err PastEnd) z
+    pub past_end : 65536 < start + n → Writes x start n z (Err PastEnd) z
     unfolding writing_of
     past_end h = refused PastEnd (rw (eq-eqb _ _ memory, lt-leb _ _ h))
 

@@ -113,10 +113,12 @@ impl Machine {
         Machine { regs, ..self }
     }
 
+    // By a struct update the record was copied in each state of a run, which took 24 instructions more.
     #[tactic(auto, unfolding(crate::specs::Record::with_lines))]
-    pub fn with_lines(self, lines: Lines) -> Machine
+    pub fn with_lines(mut self, lines: Lines) -> Machine
         ensures { result ≡ with_lines lines self }
     {
-        Machine { lines, ..self }
+        self.lines = lines;
+        self
     }
 }

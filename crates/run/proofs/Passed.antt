@@ -18,7 +18,7 @@ use Rattle.run.specs.declared.answer.Refusal.{Refusal}
 use Rattle.run.specs.declared.answer.Refusal.TheVariants.{MemorySize, PortSize, TooManyStates, TraceShort}
 use Rattle.run.specs.declared.answer.Refusal.TheVariants.{IllFormed, ClockRange}
 use Rattle.run.specs.Check.{and_then, unless, of_schedule, schedule_verdict, states_verdict, check_of}
-use Rattle.run.specs.Going.{Fit}
+use Rattle.run.specs.Going.{Ready, Fit}
 
 -- tests one after the other are good where each is
 all_good : (v : Result (Unit {0}) Refusal) (c d e f : Bool)
@@ -49,9 +49,9 @@ unfolding schedule_verdict states_verdict
 rest_good m s k n q =
     all_good (of_schedule (checked_of s)) (leb n 8192) (leb (8 * n) k) (well_of m) (leb (m.clock + n) 4294967295) q
 
--- the arguments of a run that passes the tests 3 to 9 are fit for its states
+-- a run that passes the tests 3 to 9 is ready
 pub rest_fit : (m : Machine) (s l : List ℕ) (n : ℕ) → and_then (schedule_verdict s) (states_verdict m (length l) n) ≡ Ok tt
-    → Fit m s l n
+    → Ready m s l n
 rest_fit m s l n q =
     let good = rest_good m s (length l) n q in
     record {
@@ -72,16 +72,13 @@ pub check_well : (m : Machine) (x i o : ℕ) (s : List ℕ) (k n : ℕ) → chec
 unfolding check_of
 check_well m x i o s k n q = (rest_good m s k n (sizes_good (eqb x 65536) (eqb i 256 && eqb o 256) _ q).2).3
 
--- its arguments are fit, and memory and ports have their sizes
+-- memory and ports have their sizes, and its arguments are fit
 module _ (m : Machine) (x i o s l : List ℕ) (n : ℕ)
     (q : check_of m (length x) (length i) (length o) s (length l) n ≡ Ok tt) where
   good : (eqb (length x) 65536 ≡ true) × ((eqb (length i) 256 && eqb (length o) 256) ≡ true)
       × (and_then (schedule_verdict s) (states_verdict m (length l) n) ≡ Ok tt)
   unfolding check_of
   good = sizes_good (eqb (length x) 65536) (eqb (length i) 256 && eqb (length o) 256) _ q
-
-  pub check_fit : Fit m s l n
-  check_fit = rest_fit m s l n good.2
 
   pub check_sizes : (length x ≡ 65536) × (length i ≡ 256) × (length o ≡ 256)
   check_sizes =
@@ -90,3 +87,17 @@ module _ (m : Machine) (x i o s l : List ℕ) (n : ℕ)
         eqb→eq (length i) 256 (and_left (eqb (length i) 256) (eqb (length o) 256) ports),
         eqb→eq (length o) 256 (and_right (eqb (length i) 256) (eqb (length o) 256) ports),
       )
+
+  pub check_fit : Fit m x i o s l n
+  check_fit =
+      let (memory, inputs, outputs) = check_sizes in
+      let ready = rest_fit m s l n good.2 in
+      record {
+        memory = memory;
+        inputs = inputs;
+        outputs = outputs;
+        sorted = ready.sorted;
+        few = ready.few;
+        room = ready.room;
+        time = ready.time;
+      }

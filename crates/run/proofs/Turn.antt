@@ -82,10 +82,10 @@ unfolding eventful_of
 lined_by s m l from g = record { lines = ap (λ (v : Lines). with_lines v m) g.lines; within = g.within; done = g.done }
 
 -- and the clock has counted the state
-pub turn_clock : (cur r n : Machine) (x i o s l : List ℕ) (at : ℕ) (x' o' l' : List ℕ) → stopped_of cur.next ≡ false
-    → r ≡ eventful_of s cur → After r x i o l at n x' o' l' → n.clock ≡ (cur.clock + 1) % 4294967296
-unfolding eventful_of with_lines
-turn_clock cur r n x i o s l at x' o' l' f e a =
+pub turn_clock : (cur r n : Machine) (v : Lines) (x i o l : List ℕ) (at : ℕ) (x' o' l' : List ℕ) → stopped_of cur.next ≡ false
+    → r ≡ with_lines v cur → After r x i o l at n x' o' l' → n.clock ≡ (cur.clock + 1) % 4294967296
+unfolding with_lines
+turn_clock cur r n v x i o l at x' o' l' f e a =
     ap (λ (y : Machine). y.clock) a.machine
     ∙ clock_rises _ r (ap (λ (y : Machine). stopped_of y.next) e ∙ f)
     ∙ ap (λ (y : Machine). (y.clock + 1) % 4294967296) e

@@ -7,7 +7,17 @@ use Rattle.run.specs.Run.{run_of}
 use Rattle.run.specs.Outcome.{start_of, ran_in}
 
 -- n states of the machine m under the schedule s, with the trace l
-pub record Fit (m : Machine) (s l : List ℕ) (n : ℕ) : Type 0 where
+pub record Ready (m : Machine) (s l : List ℕ) (n : ℕ) : Type 0 where
+  pub sorted : (j k : ℕ) → j ≤ k → k < length s / 6 → state_number_of s j ≤ state_number_of s k
+  pub few : n ≤ 8192
+  pub room : 8 * n ≤ length l
+  pub time : m.clock + n ≤ 4294967295
+
+-- the same, over memory x, input ports i and output ports o
+pub record Fit (m : Machine) (x i o s l : List ℕ) (n : ℕ) : Type 0 where
+  pub memory : length x ≡ 65536
+  pub inputs : length i ≡ 256
+  pub outputs : length o ≡ 256
   pub sorted : (j k : ℕ) → j ≤ k → k < length s / 6 → state_number_of s j ≤ state_number_of s k
   pub few : n ≤ 8192
   pub room : 8 * n ≤ length l

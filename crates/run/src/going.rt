@@ -1,5 +1,5 @@
 // The states of a run whose arguments have passed the tests.
-ghost use Rattle.run.specs.Going.{Fit, Went};
+ghost use Rattle.run.specs.Going.{Ready, Went};
 
 use crate::Asked;
 use crate::answer::Ran;
@@ -16,7 +16,7 @@ pub(crate) fn go(
     s: &[u8],
     trace: &mut [u8],
 ) -> Ran
-    requires { Fit asked.machine s.now trace.old asked.states }
+    requires { Ready asked.machine s.now trace.old asked.states }
     ensures { Went asked.machine memory.old inputs.now outputs.old s.now trace.old asked.states result memory.new outputs.new trace.new }
 {
     let events = s.len() / 6;
@@ -27,7 +27,7 @@ pub(crate) fn go(
             return Ran { machine, states };
         }
         let due = levels_at(s, events, from, machine.clock, machine.lines);
-        machine.lines = due.lines;
+        machine = machine.with_lines(due.lines);
         from = due.at;
         state(&mut machine, memory, inputs, outputs, trace, 8 * states);
     }

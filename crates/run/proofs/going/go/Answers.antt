@@ -4,10 +4,7 @@ use mathlib.Core.Path.{refl, sym, ◌∙◌}
 use native.Mathlib.Omega.{arith}
 use native.Mathlib.Nat.{sub-zero}
 use borrow.Author.Rules.{rules}
-use Rattle.machine.specs.Record.{with_lines}
-use Prim.Native.Nat.{◌*◌}
-use Rattle.run.specs.State.{After}
-use Rattle.run.proofs.Turn.{Lined, lined_by, turn, stop, end, turn_clock}
+use Rattle.run.proofs.Turn.{lined_by, turn, stop, end, turn_clock}
 use Rattle.run.proofs.going.go.Goals as goal
 
 pub loop-states-init : goal.loop-states-init
@@ -36,19 +33,16 @@ state-requires c =
 
 -- a turn
 pub loop-states-preserved : goal.loop-states-preserved
-unfolding with_lines
 loop-states-preserved c =
     let some = c.loop-states-test.true in
     let inv = c.loop-states.invariant in
     let going = sym c.stopped.ensures ∙ c.if-stopped.false in
-    let before = c.loop-states.machine in
-    let lines = c.levels_at-due.result.lines in
-    let lined : Lined c.args.s.now before (with_lines lines before) c.levels_at-due.result.at = lined_by _ before _ _ c.levels_at-due.ensures in
-    let after : After (with_lines lines before) c.loop-states.memory c.args.inputs.now c.loop-states.outputs c.loop-states.trace (8 * c.loop-states.states) c.state.new.machine c.state.new.memory c.state.new.outputs c.state.new.trace = c.state.ensures in
-    let clock = turn_clock before _ _ _ _ _ _ _ _ _ _ _ going lined.lines after in
+    let set = c.with_lines-machine.ensures in
+    let lined = lined_by _ _ _ _ c.levels_at-due.ensures in
+    let clock = turn_clock _ _ _ _ _ _ _ _ _ _ _ _ going set c.state.ensures in
     record {
       trace = c.state.auto.trace ∙ inv.trace;
-      run = turn before _ _ _ _ _ _ _ _ _ _ _ _ some going lined.lines after ∙ inv.run;
+      run = turn _ _ _ _ _ _ _ _ _ _ _ _ _ some going (set ∙ lined.lines) c.state.ensures ∙ inv.run;
       time = omega (arith, clock, inv.time, some);
       within = lined.within;
       past = λ j p. omega (arith, clock, lined.done j p, inv.time, some);

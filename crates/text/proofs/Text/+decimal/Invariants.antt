@@ -1,5 +1,0 @@
--- `text::Text::decimal`: the measure is the number.
-use Rattle.text.proofs.Text.+decimal.Given as goal
-
-abbrev pub decreases-decimal : goal.decreases-decimal
-decreases-decimal l = l.n
